@@ -1,0 +1,9 @@
+pub mod Same
+pub mod Evaluation
+pub mod Inverse
+pub mod Rows
+pub mod Mask
+pub mod Members
+pub mod Lucas
+pub mod Coefficients
+pub mod Stated

@@ -1,0 +1,4 @@
+pub mod Prime
+pub mod Counting
+pub mod Polynomial
+pub mod Laws
