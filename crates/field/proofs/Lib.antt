@@ -1,0 +1,3 @@
+mod Halves
+mod Euclid
+mod Power
