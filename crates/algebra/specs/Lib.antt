@@ -1,4 +1,5 @@
 pub mod Prime
 pub mod Counting
 pub mod Polynomial
+pub mod Sharing
 pub mod Laws

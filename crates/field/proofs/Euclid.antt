@@ -45,7 +45,8 @@ module _ (a over left before by : ℕ) where
   turn negated ne s =
       let less : over % left < left = mod-lt over (s .some) in
       record {
-        some = some; less = less;
+        some = some;
+        less = less;
         one = omega (arith, mul-le-mul-right {m = 1} {n = over / left} by quotient, s .one);
         whole = omega (arith, next-whole (s .whole));
         here = here negated (s .here) (s .there);

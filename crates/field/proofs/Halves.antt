@@ -26,7 +26,7 @@ small a b h k =
       hh = mul-le (a / half) (b / half) 536870911 536870911 (omega arith) (omega arith);
       hl = mul-le (a / half) (b % half) 536870911 4294967295 (omega arith) (omega arith);
       lh = mul-le (a % half) (b / half) 4294967295 536870911 (omega arith) (omega arith);
-      ll = mul-le (a % half) (b % half) 4294967295 4294967295 (omega arith) (omega arith)
+      ll = mul-le (a % half) (b % half) 4294967295 4294967295 (omega arith) (omega arith);
     }
 
 -- what differs by a multiple of p has one remainder

@@ -3,7 +3,6 @@ ghost use mathlib.Core.Path.{_≡_};
 ghost use Prim.Native.Nat.{ℕ, _+_, _-_, _*_, _%_, _^_, _<_, _≤_};
 ghost use Rattle.algebra.specs.Prime.{p};
 ghost use Rattle.std.specs.Options.{Cases};
-
 use crate::residue::P;
 use crate::residue::inverse;
 use crate::residue::negative;
@@ -22,21 +21,39 @@ pub struct Element {
 }
 
 impl Element {
-    pub const ZERO: Element = Element { value: 0 };
-    pub const ONE: Element = Element { value: 1 };
+    pub fn zero() -> Element
+        ensures { λ r. ⌜ r .value ≡ 0 ⌝ }
+    {
+        Element { value: 0 }
+    }
 
     // A number, if it is in range.
     pub fn new(value: u64) -> Option<Element>
         ensures { λ r. ⌜ Cases r (p ≤ value) (λ e. (value < p) × (e .value ≡ value)) ⌝ }
     {
-        if value < P { Some(Element { value }) } else { None }
+        if value < P {
+            Some(Element { value })
+        } else {
+            None
+        }
+    }
+
+    // Where keeper i stands.
+    pub fn point(i: u8) -> Element
+        ensures { λ r. ⌜ r .value ≡ i + 1 ⌝ }
+    {
+        Element {
+            value: u64::from(i) + 1,
+        }
     }
 
     // A small number.
     pub fn small(value: u32) -> Element
         ensures { λ r. ⌜ r .value ≡ value ⌝ }
     {
-        Element { value: u64::from(value) }
+        Element {
+            value: u64::from(value),
+        }
     }
 
     // The inverse; 0 has none.
@@ -46,13 +63,17 @@ impl Element {
         if self.value == 0 {
             return None;
         }
-        Some(Element { value: inverse(self.value) })
+        Some(Element {
+            value: inverse(self.value),
+        })
     }
 
     pub fn power(self, exponent: u64) -> Element
         ensures { λ r. ⌜ r .value ≡ (self .value ^ exponent) % p ⌝ }
     {
-        Element { value: power(self.value, exponent) }
+        Element {
+            value: power(self.value, exponent),
+        }
     }
 
     pub fn value(self) -> u64
@@ -68,7 +89,9 @@ pub impl Add<Element> for Element as ElementAdd {
     ghost adds = { λ a b r. r .value ≡ (a .value + b .value) % p };
 
     fn add(self, other: Element) -> Element {
-        Element { value: sum(self.value, other.value) }
+        Element {
+            value: sum(self.value, other.value),
+        }
     }
 }
 
@@ -78,7 +101,9 @@ pub impl Sub<Element> for Element as ElementSub {
     ghost subs = { λ a b r. r .value ≡ (a .value + (p - b .value)) % p };
 
     fn sub(self, other: Element) -> Element {
-        Element { value: sum(self.value, negative(other.value)) }
+        Element {
+            value: sum(self.value, negative(other.value)),
+        }
     }
 }
 
@@ -88,7 +113,9 @@ pub impl Neg for Element as ElementNeg {
     ghost negs = { λ a r. r .value ≡ (p - a .value) % p };
 
     fn neg(self) -> Element {
-        Element { value: negative(self.value) }
+        Element {
+            value: negative(self.value),
+        }
     }
 }
 
@@ -98,6 +125,8 @@ pub impl Mul<Element> for Element as ElementMul {
     ghost muls = { λ a b r. r .value ≡ (a .value * b .value) % p };
 
     fn mul(self, other: Element) -> Element {
-        Element { value: product(self.value, other.value) }
+        Element {
+            value: product(self.value, other.value),
+        }
     }
 }

@@ -15,13 +15,18 @@ pub loop-left-again : need.loop-left-again
 loop-left-again c =
     let l = c .loop-left in
     let t = c .args .a ^ c .args .exponent in
-    elim (c .if-left-eq1 .came)
-    [ then-left-eq1 w ↦
-        (omega (arith, w .result-is, w .product-result .ensures), omega (arith, c .product-base .ensures),
-        odd t (l .result) _ (l .base) _ (l .left) (omega (arith, w .if-left-eq1 .taken)) (w .result-is ∙ w .product-result .ensures) (c .product-base .ensures) (l .inv .2))
-    | else-left-eq1 w ↦
-        (omega (arith, w .result-is, l .inv .0), omega (arith, c .product-base .ensures),
-        rw (w .result-is) (even t (l .result) (l .base) _ (l .left) (omega (arith, w .if-left-eq1 .left)) (c .product-base .ensures) (l .inv .2))) ]
+    elim (c .if-left-eq1 .came) [
+      | then-left-eq1 w ↦ (
+        omega (arith, w .result-is, w .product-result .ensures),
+        omega (arith, c .product-base .ensures),
+        odd t (l .result) _ (l .base) _ (l .left) (omega (arith, w .if-left-eq1 .taken)) (w .result-is ∙ w .product-result .ensures) (c .product-base .ensures) (l .inv .2),
+      )
+      | else-left-eq1 w ↦ (
+        omega (arith, w .result-is, l .inv .0),
+        omega (arith, c .product-base .ensures),
+        rw (w .result-is) (even t (l .result) (l .base) _ (l .left) (omega (arith, w .if-left-eq1 .left)) (c .product-base .ensures) (l .inv .2)),
+      )
+    ]
 
 pub returns : need.returns
 returns c =

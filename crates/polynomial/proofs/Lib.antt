@@ -1,0 +1,4 @@
+mod Horner
+mod Places
+mod Sums
+mod Rows
