@@ -1,0 +1,3 @@
+pub mod Deal
+pub mod Rounds
+pub mod Promise

@@ -1,0 +1,61 @@
+-- What is promised of one dealing. Each is a type; a proof of the type is the theorem.
+use mathlib.Core.Path.{_≡_}
+use mathlib.Core.Bool.{Bool, true}
+use mathlib.Core.List.{List, [], _∷_, List·Memᴰ}
+use Prim.Native.Nat.{ℕ, _+_, _<_, _≤_}
+use lib.Dec.{T}
+use Rattle.algebra.specs.Polynomial.{value2, Low2, plus2}
+use Rattle.algebra.specs.Sharing.{point, Pair, Share, swap, pairAt, shareOf, Of}
+use Rattle.std.specs.declared.option.Option.the-variants.{Some, None}
+use Rattle.rules.specs.Deal.{Group, Sound, Keeper, Honest, Dealing, Kept, Strict, Fair, SeenDeal, isAccepted, own}
+use Rattle.rules.specs.Rounds.{Setting, Lines, keepers, group, Follows, Deals, Deal, readOff, wordsBy, answersOf, hand, board}
+
+-- MAIN. Whatever the dealer and the liars do: if a dealing is accepted, there is one polynomial, of the stated degrees, that the shares of all honest keepers are of.
+abbrev pub Main : Type 0
+Main =
+    (g : Group) → Sound g → (high low : ℕ) → high ≤ g .f + 1 → low ≤ g .f + 1 → (d : Dealing) → Kept g high low d → T (isAccepted g d) →
+    (rs : List (List ℕ)) × Low2 high low rs × ((i : ℕ) → Honest g i → Of (g .p) rs i (own d i))
+
+-- AN HONEST DEALER PASSES. Its dealing is accepted, every honest keeper has what was dealt, no honest keeper is revealed,
+abbrev pub FairPasses : Type 0
+FairPasses =
+    (g : Group) → Sound g → (high low : ℕ) → 1 ≤ high → (rs : List (List ℕ)) → (d : Dealing) → Strict g high low d → Fair g high low rs d →
+    T (isAccepted g d) × ((i : ℕ) → Honest g i → own d i ≡ shareOf (g .p) rs i) × ((i : ℕ) → Honest g i → d .reveals i ≡ None)
+
+-- and an honest keeper complains only about one that lies, with numbers that that one holds in its own share.
+abbrev pub FairShows : Type 0
+FairShows =
+    (g : Group) → Sound g → (high low : ℕ) → 1 ≤ high → (rs : List (List ℕ)) → (d : Dealing) → Kept g high low d → Strict g high low d → Fair g high low rs d →
+    (i j : ℕ) → Honest g i → Keeper g j → (x : Pair) → d .complaints i j ≡ Some x → T (g .lies j) × (x ≡ swap (pairAt (g .p) (shareOf (g .p) rs j) i))
+
+-- HIDING. A polynomial that is 0 wherever keeper s looks
+abbrev pub Unseen : Group → List (List ℕ) → ℕ → Type 0
+Unseen g qs s = (z : ℕ) → (value2 (g .p) qs z (point s) ≡ 0) × (value2 (g .p) qs (point s) z ≡ 0)
+
+-- can be added to what an honest dealer deals, and with the same lies nothing changes that the spied see, if all liars count as spied.
+abbrev pub HidesDealing : Type 0
+HidesDealing =
+    (g : Group) → Sound g → (high low : ℕ) → 1 ≤ high → high ≤ g .f + 1 → low ≤ g .f + 1 → (rs : List (List ℕ)) → (d : Dealing) → Kept g high low d → Strict g high low d → Fair g high low rs d →
+    (spied : List ℕ) → ((i : ℕ) → List·Memᴰ i spied → Keeper g i) → ((i : ℕ) → Keeper g i → T (g .lies i) → List·Memᴰ i spied) →
+    (qs : List (List ℕ)) → Low2 high low qs → ((s : ℕ) → List·Memᴰ s spied → Unseen g qs s) →
+    (e : Dealing) × Kept g high low e × Strict g high low e × Fair g high low (plus2 (g .p) rs qs) e × SeenDeal g spied d e
+
+-- MESSAGE BY MESSAGE. Whatever the liars do, and in whatever order words come: what happened keeps the rules of a dealing,
+abbrev pub KeepsRules : Type 0
+KeepsRules =
+    (s : Setting) (lies : ℕ → Bool) (lines : Lines) → keepers s ≤ 16 → Follows s lies lines (hand s lines) (board s lines) →
+    let d = readOff s (hand s lines 5) (board s lines 5) in Kept (group s lies) (s .high) (s .low) d × Strict (group s lies) (s .high) (s .low) d
+
+-- and an honest dealer's those of a fair one.
+abbrev pub DealsFairly : Type 0
+DealsFairly =
+    (s : Setting) (lies : ℕ → Bool) (lines : Lines) (rs : List (List ℕ)) → keepers s ≤ 16 → 1 ≤ s .p → 1 ≤ s .high → Deals s lies lines (board s lines) rs →
+    Fair (group s lies) (s .high) (s .low) rs (readOff s (hand s lines 5) (board s lines 5))
+
+-- And there are such messages, whatever the liars say: said is what would come from everybody, and of liars exactly that comes.
+abbrev pub CanFollow : Type 0
+CanFollow =
+    (s : Setting) (lies : ℕ → Bool) (said : Lines) (shares : ℕ → Share) →
+    (lines : Lines) × Follows s lies lines (hand s lines) (board s lines) ×
+    (Honest (group s lies) (s .dealer) → ((j : ℕ) → wordsBy (s .dealer) (lines .mail 1 j) ≡ Deal (shares j) ∷ []) × (wordsBy (s .dealer) (lines .board 4) ≡ answersOf s shares (board s lines 3))) ×
+    ((r i : ℕ) → lies i ≡ true → ((j : ℕ) → wordsBy i (lines .mail r j) ≡ wordsBy i (said .mail r j)) × (wordsBy i (lines .board r) ≡ wordsBy i (said .board r)))

@@ -1,0 +1,37 @@
+// The rules of one dealing and what follows from them. Each function below stands for a theorem, which is its contract; it computes nothing.
+ghost use Rattle.rules.specs.Promise.{CanFollow, DealsFairly, FairPasses, FairShows, HidesDealing, KeepsRules, Main};
+
+// An accepted dealing is of one polynomial.
+pub fn main_promise()
+    ensures { λ _. ⌜ Main ⌝ }
+{}
+
+// An honest dealer's dealing passes.
+pub fn fair_passes()
+    ensures { λ _. ⌜ FairPasses ⌝ }
+{}
+
+// What honest keepers show of it the liars hold already.
+pub fn fair_shows()
+    ensures { λ _. ⌜ FairShows ⌝ }
+{}
+
+// It could as well have been another one.
+pub fn hides_dealing()
+    ensures { λ _. ⌜ HidesDealing ⌝ }
+{}
+
+// Message by message, a dealing keeps the rules.
+pub fn keeps_rules()
+    ensures { λ _. ⌜ KeepsRules ⌝ }
+{}
+
+// And an honest dealer deals fairly.
+pub fn deals_fairly()
+    ensures { λ _. ⌜ DealsFairly ⌝ }
+{}
+
+// There are such messages, whatever liars say.
+pub fn can_follow()
+    ensures { λ _. ⌜ CanFollow ⌝ }
+{}
