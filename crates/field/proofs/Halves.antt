@@ -34,11 +34,18 @@ by : (n k s : ℕ) → n ≡ p * k + s → s % p ≡ n % p
 by n k s e = sym (ap (λ m. m % p) e ∙ mul-add-mod-self-left p k s)
 
 -- 2 ^ 64 is 8, and 2 ^ 61 is 1
-pub folded : (n x m l : ℕ) → n ≡ half * (half * x + m) + l → (8 * x + m / 536870912 + m % 536870912 * half % 18446744073709551616 + l % p) % p ≡ n % p
-folded n x m l e = by n (8 * x + m / 536870912 + l / p) (8 * x + m / 536870912 + m % 536870912 * half % 18446744073709551616 + l % p) (omega arith)
+pub folded : (n x m l c : ℕ) → n ≡ half * (half * x + m) + l → x ≤ 536870911 * 536870911 →
+    (x * 8 % 18446744073709551616 + m / 536870912 + m % 536870912 * half % 18446744073709551616 + l % 2305843009213693952 + l / 2305843009213693952 + c) % p ≡ (c + n) % p
+folded n x m l c e h =
+    by (c + n) (8 * x + m / 536870912 + l / 2305843009213693952)
+    (x * 8 % 18446744073709551616 + m / 536870912 + m % 536870912 * half % 18446744073709551616 + l % 2305843009213693952 + l / 2305843009213693952 + c)
+    (omega arith)
 
 pub low29 : (n : ℕ) → bitAnd n 536870911 ≡ n % 536870912
 low29 n = and-mask n 29
 
 pub low32 : (n : ℕ) → bitAnd n 4294967295 ≡ n % 4294967296
 low32 n = and-mask n 32
+
+pub low61 : (n : ℕ) → bitAnd n 2305843009213693951 ≡ n % 2305843009213693952
+low61 n = and-mask n 61

@@ -8,6 +8,7 @@ use crate::residue::inverse;
 use crate::residue::negative;
 use crate::residue::power;
 use crate::residue::product;
+use crate::residue::product_plus;
 use crate::residue::sum;
 use std::ops::Add;
 use std::ops::Mul;
@@ -53,6 +54,15 @@ impl Element {
     {
         Element {
             value: u64::from(value),
+        }
+    }
+
+    // This number times another and one more: a step of Horner's rule.
+    pub fn times_plus(self, factor: Element, more: Element) -> Element
+        ensures { λ r. ⌜ r .value ≡ (more .value + self .value * factor .value) % p ⌝ }
+    {
+        Element {
+            value: product_plus(self.value, factor.value, more.value),
         }
     }
 

@@ -21,4 +21,4 @@ abbrev pub held : Share → sharing.Share
 held s = record { across = coeffs (s .across); down = coeffs (s .down) }
 
 abbrev pub said : Pair → sharing.Pair
-said a = record { across = a .across .value; down = a .down .value }
+said a = record { across = a .across; down = a .down }

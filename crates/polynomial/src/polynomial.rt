@@ -17,9 +17,13 @@ use field::ElementMul;
 fn horner(cs: &[Element], x: Element) -> Element
     ensures { λ r. ⌜ r .value ≡ value p (numbers (now (cs .entry))) (x .value) ⌝ }
 {
-    let mut sum = Element::zero();
-    for i in (0..cs.len()).rev() {
-        sum = cs[i] + x * sum;
+    let n = cs.len();
+    if n == 0 {
+        return Element::zero();
+    }
+    let mut sum = cs[n - 1];
+    for i in (0..n - 1).rev() {
+        sum = x.times_plus(sum, cs[i]);
     }
     sum
 }

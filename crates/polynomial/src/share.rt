@@ -13,7 +13,6 @@ use crate::types::Polynomial;
 use crate::types::Shape;
 use crate::types::Share;
 use field::Element;
-use field::ElementPartialEq;
 
 impl Pair {
     // As the other one sees it.
@@ -57,8 +56,8 @@ impl Share {
     {
         let at = Element::point(j);
         Pair {
-            across: self.across.evaluate(at),
-            down: self.down.evaluate(at),
+            across: self.across.evaluate(at).value(),
+            down: self.down.evaluate(at).value(),
         }
     }
 

@@ -44,6 +44,6 @@ pub struct Share {
 // What a share gives at one point.
 #[derive(Clone, Copy)]
 pub struct Pair {
-    pub across: Element,
-    pub down: Element,
+    pub across: u64,
+    pub down: u64,
 }
