@@ -13,7 +13,7 @@ use Rattle.std.specs.declared.option.Option.the-variants.{Some, None}
 use Rattle.algebra.specs.Polynomial.{value, Low2}
 use Rattle.algebra.specs.Counting.{count}
 use Rattle.algebra.specs.Sharing.{point, Pair, swap, pairAt, Of, Agree}
-use Rattle.rules.specs.Deal.{Group, size, away, Sound, Honest, Lowly, Dealing, Fits, Kept, isAccepted, own, orElse}
+use Rattle.rules.specs.Deal.{Group, size, away, Sound, Honest, Lengths, Dealing, Fits, Kept, isAccepted, own, orElse}
 use Rattle.rules.specs.Promise.{Main}
 use Rattle.algebra.proofs.Same.{Same, same, rest}
 use Rattle.algebra.proofs.Evaluation.{eval, value-is}
@@ -65,11 +65,11 @@ module _ (g : Group) (sound : Sound g) (high low : ℕ) (d : Dealing) (kept : Ke
   unfolding Sure
   says k m = kept .saysFine k (honest k m) (those-in (size g) k (d .fine) (sure .from k m .0) .1)
 
-  lows : (i : ℕ) → Honest g i → Lowly high low (own d i)
+  lows : (i : ℕ) → Honest g i → Lengths high low (own d i)
   unfolding Sure
   lows i hi = ⊎-elim
-      (λ h. subst (Lowly high low) (sym (h .1)) (kept .shares i hi .0))
-      (λ h. let k = first (sure .kept) (omega (arith, enough)) in subst (Lowly high low) (sym (h .2)) (says (k .0) (k .1) .shown i (hi .0) (h .0) (h .1) .0))
+      (λ h. subst (Lengths high low) (sym (h .1)) (kept .shares i hi .0))
+      (λ h. let k = first (sure .kept) (omega (arith, enough)) in subst (Lengths high low) (sym (h .2)) (says (k .0) (k .1) .shown i (hi .0) (h .0) (h .1) .0))
       (found (d .dealt i) (d .reveals i))
 
   -- two honest keepers that don't agree complain about each other, so one is revealed

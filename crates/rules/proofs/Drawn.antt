@@ -6,7 +6,7 @@ use native.Mathlib.Omega.{arith}
 use Rattle.algebra.specs.Prime.{Prime}
 use Rattle.algebra.specs.Polynomial.{Exact, Exact2, setFirst, setSecond}
 use Rattle.algebra.specs.Sharing.{point, shareOf, Of}
-use Rattle.rules.specs.Deal.{Group, Lowly}
+use Rattle.rules.specs.Deal.{Group, Lengths}
 use Rattle.algebra.proofs.Same.{Same, so, _⊞_, _⊟_}
 use Rattle.algebra.proofs.Evaluation.{eval, down}
 use Rattle.algebra.proofs.Rows.{eval2, value2-is}
@@ -19,8 +19,8 @@ of-share p rs i = record {
 }
 
 -- a dealt share is low enough
-pub lowly-share : (p high low : ℕ) → 1 ≤ p → 1 ≤ high → (rs : List (List ℕ)) → Exact2 p high low rs → (i : ℕ) → Lowly high low (shareOf p rs i)
-lowly-share p high low one h1 rs drawn i = (omega (arith, exact-second p rs (point i) one .count, drawn .count), omega (arith, exact-first p low rs (point i) one (omega (arith, drawn .count)) (drawn .each) .count))
+pub lengths-share : (p high low : ℕ) → 1 ≤ p → 1 ≤ high → (rs : List (List ℕ)) → Exact2 p high low rs → (i : ℕ) → Lengths high low (shareOf p rs i)
+lengths-share p high low one h1 rs drawn i = (omega (arith, exact-second p rs (point i) one .count, drawn .count), omega (arith, exact-first p low rs (point i) one (omega (arith, drawn .count)) (drawn .each) .count))
 
 -- so two polynomials that are the same where keeper i looks give it the same share
 pub share-same : (g : Group) → Prime (g .p) → (high low : ℕ) → 1 ≤ high → high < g .p → low < g .p → (rs qs : List (List ℕ)) → Exact2 (g .p) high low rs → Exact2 (g .p) high low qs →
@@ -47,4 +47,3 @@ share-same g prime high low h1 hh hl rs qs r q i s = λ k. record { across = acr
 
     down' : setFirst p rs (point i) ≡ setFirst p qs (point i)
     down' = determined prime low hl _ _ (first rs r) (first qs q) (λ z. so (first-is p rs (point i) z ⊞ s z .1 ⊟ first-is p qs (point i) z) (omega arith))
-

@@ -9,10 +9,10 @@ use lib.Dec.{T, le→leb}
 use Rattle.std.specs.declared.option.Option.the-variants.{Some, None}
 use Rattle.algebra.specs.Counting.{count}
 use Rattle.algebra.specs.Sharing.{point, swap, pairAt, Agree, shareOf, Pair}
-use Rattle.rules.specs.Deal.{Group, size, away, Sound, Keeper, Honest, Lowly, Dealing, Fits, Strict, Fair, isAccepted, own, Doubts, Kept}
+use Rattle.rules.specs.Deal.{Group, size, away, Sound, Keeper, Honest, Lengths, Dealing, Fits, Strict, Fair, isAccepted, own, Doubts, Kept}
 use Rattle.rules.specs.Promise.{FairPasses, FairShows}
 use Rattle.rules.proofs.Dealt.{found, honest-if}
-use Rattle.rules.proofs.Drawn.{of-share, lowly-share}
+use Rattle.rules.proofs.Drawn.{of-share, lengths-share}
 use Rattle.algebra.proofs.Members.{Without, without, upto, upto-below, upto-differ, length-upto, those, length-those, those-all, no-more}
 
 -- shares of one polynomial agree
@@ -34,13 +34,13 @@ honesty g i h = ⊎-elim inl (λ n. inr (h, n)) (lies-or-not g i)
 
 -- what an honest dealer's rules alone give
 module _ (g : Group) (sound : Sound g) (high low : ℕ) (h1 : 1 ≤ high) (rs : List (List ℕ)) (d : Dealing) (fair : Fair g high low rs d) where
-  pub lows : (i : ℕ) → Lowly high low (shareOf (g .p) rs i)
-  lows = lowly-share (g .p) high low (omega (arith, sound .room)) h1 rs (fair .chance)
+  pub lows : (i : ℕ) → Lengths high low (shareOf (g .p) rs i)
+  lows = lengths-share (g .p) high low (omega (arith, sound .room)) h1 rs (fair .chance)
 
   pub fits : (i : ℕ) → Keeper g i → d .reveals i ≡ None → Fits g high low d i
   fits i h n = record {
     hidden = n;
-    shown = λ k hk s e. let r = fair .reveals k hk s e .0 in (subst (Lowly high low) (sym r) (lows k), subst (λ t. Agree (g .p) i (d .dealt i) k t) (sym r) (subst (λ t. Agree (g .p) i t k (shareOf (g .p) rs k)) (sym (fair .deals i h)) (shares-agree g rs i k)));
+    shown = λ k hk s e. let r = fair .reveals k hk s e .0 in (subst (Lengths high low) (sym r) (lows k), subst (λ t. Agree (g .p) i (d .dealt i) k t) (sym r) (subst (λ t. Agree (g .p) i t k (shareOf (g .p) rs k)) (sym (fair .deals i h)) (shares-agree g rs i k)));
     settled = λ a ha b hb x y ex ey na nb. fair .answers a ha b hb x ex na ∙ shares-agree g rs a b ∙ ap swap (sym (fair .answers b hb a ha y ey nb));
   }
 

@@ -5,9 +5,9 @@ use mathlib.Core.List.{List, [], _∷_}
 use Prim.Native.Nat.{ℕ, zero, suc, _+_, _<_, _≤_}
 use native.Mathlib.Nat.{mul-zero, zero-mod}
 use native.Mathlib.Omega.{arith}
-use lib.Dec.{eqb, ltb, leb}
+use lib.Dec.{eqb, ltb}
 use lib.ListN.{length, getD, replicate, length-replicate}
-use borrow.Author.Tests.{ne-eqb, eq-eqb, lt-ltb, leb-true, le-leb}
+use borrow.Author.Tests.{ne-eqb, eq-eqb, lt-ltb}
 use Rattle.std.specs.Orderings.{Decides}
 use Rattle.std.proofs.shelf.Tests.{and-from, and-right, false≢true, not-from-false}
 use Rattle.std.proofs.shelf.Ways.{decides-eqb, decides-and, decides-not, decides-like, decides-below-and, decides-below-or}
@@ -15,52 +15,49 @@ use Rattle.std.specs.declared.option.Option.{Option}
 use Rattle.std.specs.declared.option.Option.the-variants.{Some, None}
 use Rattle.algebra.specs.Polynomial.{value}
 use Rattle.algebra.specs.Sharing.{point, Share, Pair, swap, pairAt, Agree, shareOf}
-use Rattle.rules.specs.Deal.{Group, Honest, Lowly, Keeper, Dealing, Doubts, Fits, Kept, Strict, Fair, orElse}
-use Rattle.rules.specs.Rounds.{Setting, keepers, group, Told, Complaint, Reveal, Hand, Posts, Lines, free, every, any, hand, board, toldBy, complaint, revealed, complained, same, lowly, zeros, checked, mine, fits, doubts, complaintsOf, differs, wrong, shows, settles, allFits, wordsBy, Follows, Deals, readOff}
+use Rattle.rules.specs.Deal.{Group, Honest, Lengths, Keeper, Dealing, Doubts, Fits, Kept, Strict, Fair, orElse}
+use Rattle.rules.specs.Rounds.{Setting, keepers, group, Told, Complaint, Reveal, Hand, Posts, Lines, free, every, any, hand, board, toldBy, complaint, revealed, complained, same, lengths, zeros, checked, mine, fits, doubts, complaintsOf, differs, wrong, shows, settles, allFits, wordsBy, Follows, Deals, readOff}
 use Rattle.rules.specs.Promise.{KeepsRules, DealsFairly}
 use Rattle.rules.proofs.Dealt.{pairs}
-use Rattle.rules.proofs.Drawn.{lowly-share}
+use Rattle.rules.proofs.Drawn.{lengths-share}
 use Rattle.rules.proofs.Fairly.{shares-agree}
 use Rattle.rules.proofs.Slots.{first, first-one, gathered, on, off, only, only-if, never, same-some}
 use Rattle.rules.proofs.Places.{offerDeal, offerTold, offerComplaint, offerReveal, offerFine, share-stays, told-stays, complaints-stay, reveals-stay, share-is, told-is, complaint-is, reveal-is, fine-is}
 
 -- THE TESTS
-decides-same : (a b : Pair) → Decides (same a b) (a ≡ b)
+pub decides-same : (a b : Pair) → Decides (same a b) (a ≡ b)
 decides-same a b = decides-like (same a b) (λ e i. record { across = e .0 i; down = e .1 i }) (λ e. (ap (λ (x : Pair). x .across) e, ap (λ (x : Pair). x .down) e))
     (decides-and (eqb (a .across) (b .across)) (eqb (a .down) (b .down)) (decides-eqb (a .across) (b .across)) (decides-eqb (a .down) (b .down)))
 
-decides-leb : (a b : ℕ) → Decides (leb a b) (a ≤ b)
-decides-leb a b = (leb-true a b, le-leb a b)
+pub decides-lengths : (s : Setting) (x : Share) → Decides (lengths s x) (Lengths (s .high) (s .low) x)
+decides-lengths s x = decides-and (eqb (length (x .across)) (s .high)) (eqb (length (x .down)) (s .low)) (decides-eqb _ _) (decides-eqb _ _)
 
-decides-lowly : (s : Setting) (x : Share) → Decides (lowly s x) (Lowly (s .high) (s .low) x)
-decides-lowly s x = decides-and (leb (length (x .across)) (s .high)) (leb (length (x .down)) (s .low)) (decides-leb _ _) (decides-leb _ _)
-
-decides-fits : (o : Option Pair) (b : Pair) → Decides (fits o b) (o ≡ Some b)
+pub decides-fits : (o : Option Pair) (b : Pair) → Decides (fits o b) (o ≡ Some b)
 decides-fits None b = (λ e. cc, λ e. never e)
 decides-fits (Some a) b = decides-like (same a b) (ap Some) (λ e. cc) (decides-same a b)
 
-decides-differs : (o : Option Pair) (b : Pair) → Decides (differs o b) ((y : Pair) × (o ≡ Some y) × (y ≡ b → ⊥))
+pub decides-differs : (o : Option Pair) (b : Pair) → Decides (differs o b) ((y : Pair) × (o ≡ Some y) × (y ≡ b → ⊥))
 decides-differs None b = (λ e. absurd (false≢true e), λ h. never (h .1))
 decides-differs (Some a) b = decides-like _ (λ n. (a, refl, n)) (λ h e. h .2 (sym (same-some (h .1)) ∙ e)) (decides-not (same a b) (decides-same a b))
 
-decides-free : {A : Type 0} (o : Option A) → Decides (free o) (o ≡ None)
+pub decides-free : {A : Type 0} (o : Option A) → Decides (free o) (o ≡ None)
 decides-free None = (λ _. refl, λ _. refl)
 decides-free (Some x) = (λ e. cc, λ e. never (sym e))
 
-decides-every : (n : ℕ) (t : ℕ → Bool) (P : ℕ → Type 0) → ((k : ℕ) → Decides (t k) (P k)) → Decides (every n t) ((k : ℕ) → k < n → P k)
+pub decides-every : (n : ℕ) (t : ℕ → Bool) (P : ℕ → Type 0) → ((k : ℕ) → Decides (t k) (P k)) → Decides (every n t) ((k : ℕ) → k < n → P k)
 unfolding every
 decides-every n t P each = decides-below-and t P (λ m. every m t) each refl (λ _. refl) n
 
-decides-any : (n : ℕ) (t : ℕ → Bool) (P : ℕ → Type 0) → ((k : ℕ) → Decides (t k) (P k)) → Decides (any n t) ((k : ℕ) × (k < n) × P k)
+pub decides-any : (n : ℕ) (t : ℕ → Bool) (P : ℕ → Type 0) → ((k : ℕ) → Decides (t k) (P k)) → Decides (any n t) ((k : ℕ) × (k < n) × P k)
 unfolding any
 decides-any n t P each = decides-below-or t P (λ m. any m t) each refl (λ _. refl) n
 
-decides-shows : (s : Setting) (me : ℕ) (x : Share) (k : ℕ) (o : Option Share) → Decides (shows s me x k o) ((y : Share) → o ≡ Some y → Lowly (s .high) (s .low) y × Agree (s .p) me x k y)
+pub decides-shows : (s : Setting) (me : ℕ) (x : Share) (k : ℕ) (o : Option Share) → Decides (shows s me x k o) ((y : Share) → o ≡ Some y → Lengths (s .high) (s .low) y × Agree (s .p) me x k y)
 decides-shows s me x k None = (λ _ y e. never e, λ _. refl)
-decides-shows s me x k (Some y) = decides-like _ (λ h z e. subst (λ z. Lowly (s .high) (s .low) z × Agree (s .p) me x k z) (same-some e) h) (λ h. h y refl)
-    (decides-and (lowly s y) (same (pairAt (s .p) x k) (swap (pairAt (s .p) y me))) (decides-lowly s y) (decides-same _ _))
+decides-shows s me x k (Some y) = decides-like _ (λ h z e. subst (λ z. Lengths (s .high) (s .low) z × Agree (s .p) me x k z) (same-some e) h) (λ h. h y refl)
+    (decides-and (lengths s y) (same (pairAt (s .p) x k) (swap (pairAt (s .p) y me))) (decides-lengths s y) (decides-same _ _))
 
-decides-settles : (o u : Option Pair) (r t : Option Share) → Decides (settles o u r t) ((x y : Pair) → o ≡ Some x → u ≡ Some y → r ≡ None → t ≡ None → x ≡ swap y)
+pub decides-settles : (o u : Option Pair) (r t : Option Share) → Decides (settles o u r t) ((x y : Pair) → o ≡ Some x → u ≡ Some y → r ≡ None → t ≡ None → x ≡ swap y)
 decides-settles None u r t = (λ _ x y e. never e, λ _. refl)
 decides-settles (Some x) None r t = (λ _ x y e f. never f, λ _. refl)
 decides-settles (Some x) (Some y) (Some r) t = (λ _ x y e f g. never (sym g), λ _. refl)
@@ -77,25 +74,26 @@ value-zeros p zero x = refl
 value-zeros p (suc n) x = rw (value-zeros p n x) (rw (mul-zero x) (zero-mod p))
 
 Good : Setting → ℕ → Share → Type 0
-Good s me x = Lowly (s .high) (s .low) x × Agree (s .p) me x me x
+Good s me x = Lengths (s .high) (s .low) x × Agree (s .p) me x me x
 
 zeros-good : (s : Setting) (me : ℕ) → Good s me (zeros s)
 unfolding Good
-zeros-good s me =
-    ((omega (arith, length-replicate {A = ℕ} (s .high) 0), omega (arith, length-replicate {A = ℕ} (s .low) 0)),
-    λ k. record { across = (value-zeros (s .p) (s .high) (point me) ∙ sym (value-zeros (s .p) (s .low) (point me))) k; down = (value-zeros (s .p) (s .low) (point me) ∙ sym (value-zeros (s .p) (s .high) (point me))) k })
+zeros-good s me = (
+  (length-replicate (s .high) 0, length-replicate (s .low) 0),
+  λ k. record { across = (value-zeros (s .p) (s .high) (point me) ∙ sym (value-zeros (s .p) (s .low) (point me))) k; down = (value-zeros (s .p) (s .low) (point me) ∙ sym (value-zeros (s .p) (s .high) (point me))) k },
+)
 
 checked-good : (s : Setting) (me : ℕ) (o : Option Share) → Good s me (checked s me o)
 unfolding Good
 checked-good s me None = zeros-good s me
-checked-good s me (Some x) = by _ (decides-and (lowly s x) (same (pairAt (s .p) x me) (swap (pairAt (s .p) x me))) (decides-lowly s x) (decides-same _ _))
+checked-good s me (Some x) = by _ (decides-and (lengths s x) (same (pairAt (s .p) x me) (swap (pairAt (s .p) x me))) (decides-lengths s x) (decides-same _ _))
   where
-    by : (b : Bool) → Decides b (Lowly (s .high) (s .low) x × Agree (s .p) me x me x) → Good s me (cond b x (zeros s))
+    by : (b : Bool) → Decides b (Lengths (s .high) (s .low) x × Agree (s .p) me x me x) → Good s me (cond b x (zeros s))
     by true h = h .0 refl
     by false h = zeros-good s me
 
-checked-keeps : (s : Setting) (me : ℕ) (x : Share) → Lowly (s .high) (s .low) x → Agree (s .p) me x me x → checked s me (Some x) ≡ x
-checked-keeps s me x l a = ap (λ b. cond b x (zeros s)) (and-from (lowly s x) _ (decides-lowly s x .1 l) (decides-same _ _ .1 a))
+checked-keeps : (s : Setting) (me : ℕ) (x : Share) → Lengths (s .high) (s .low) x → Agree (s .p) me x me x → checked s me (Some x) ≡ x
+checked-keeps s me x l a = ap (λ b. cond b x (zeros s)) (and-from (lengths s x) _ (decides-lengths s x .1 l) (decides-same _ _ .1 a))
 
 pub decides-doubts : (s : Setting) (me : ℕ) (h : Hand) (j : ℕ) → Decides (doubts s me h j) ((me ≡ j → ⊥) × (toldBy h j ≡ Some (swap (pairAt (s .p) (mine s me h) j)) → ⊥))
 decides-doubts s me h j = decides-and (not (eqb me j)) _ (decides-not (eqb me j) (decides-eqb me j)) (decides-not _ (decides-fits (toldBy h j) _))
@@ -152,7 +150,7 @@ module _ (s : Setting) (lies : ℕ → Bool) (run : Lines) (fit : keepers s ≤ 
     gets : (i : ℕ) → Keeper g i → d .dealt i ≡ shares i
     gets i hi = ap (checked s i) (share1 i ∙ share-is s run fit i ∙ ap (first (offerDeal s (s .dealer))) (deals .gives i hi) ∙ first-one (offerDeal s (s .dealer)) _
         ∙ on (eqb (s .dealer) (s .dealer)) true (shares i) (eq-eqb (s .dealer) (s .dealer) refl) refl)
-        ∙ checked-keeps s i (shares i) (lowly-share (s .p) (s .high) (s .low) one h1 rs (deals .chance) i) (shares-agree g rs i i)
+        ∙ checked-keeps s i (shares i) (lengths-share (s .p) (s .high) (s .low) one h1 rs (deals .chance) i) (shares-agree g rs i i)
 
     shown : (k : ℕ) → k < keepers s → d .reveals k ≡ cond (any (keepers s) (wrong s shares (board s run 3) k)) (offerReveal s (board s run 3) k (s .dealer) (Reveal k (shares k))) None
     shown k hk = ap (λ (l : List (Option Share)). getD l k None) (reveals-stay s run fit 4 (λ e. omega arith)) ∙ reveal-is s run fit k ∙ ap (first (offerReveal s (board s run 3) k (s .dealer))) (deals .answers)
@@ -209,7 +207,7 @@ module _ (s : Setting) (lies : ℕ → Bool) (run : Lines) (fit : keepers s ≤ 
     judges i hi = ap (orElse false) (fine-is s run fit i ∙ ap (first (offerFine s i i)) (follows .judges i hi) ∙ first-one (offerFine s i i) _ ∙ on (ltb i (keepers s)) (eqb i i) _ (lt-ltb i (keepers s) (hi .0 .0)) (eq-eqb i i refl))
         ∙ judged i
 
-    good : (i : ℕ) → Lowly (s .high) (s .low) (d .dealt i) × Agree (g .p) i (d .dealt i) i (d .dealt i)
+    good : (i : ℕ) → Lengths (s .high) (s .low) (d .dealt i) × Agree (g .p) i (d .dealt i) i (d .dealt i)
     unfolding Good
     good i = checked-good s i (hand s run 5 i .share)
 

@@ -6,3 +6,7 @@ pub mod Unseen
 pub mod Places
 pub mod Keeping
 pub mod Playing
+pub mod Steps
+pub mod Sat
+pub mod Bytes
+pub mod Reading

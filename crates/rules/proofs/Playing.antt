@@ -9,7 +9,7 @@ use lib.Dec.{T, eqb}
 use borrow.Author.Tests.{ne-eqb, eq-eqb}
 use Rattle.algebra.specs.Sharing.{Share}
 use Rattle.rules.specs.Deal.{Honest}
-use Rattle.rules.specs.Rounds.{Setting, keepers, group, Letter, Post, Deal, Fine, Said, Hand, Posts, Lines, nothingHeard, nothingPosted, heard, posted, hand, board, mine, tellsTo, complaintsOf, answersOf, allFits, wordsBy, Follows}
+use Rattle.rules.specs.Rounds.{Setting, keepers, group, Letter, Post, Deal, Fine, Said, Hand, Posts, Lines, nothingHeard, nothingPosted, heard, posted, hand, board, mine, tellsTo, complaintsOf, answersOf, allFits, wordsBy, Follows, Quiet}
 use Rattle.rules.specs.Promise.{CanFollow}
 
 -- the words of liars
@@ -26,7 +26,7 @@ pub spoken : {W : Type 0} → (ℕ → Bool) → ℕ → (ℕ → List W) → Li
 spoken lies zero w said = left lies said
 spoken lies (suc n) w said = cond (lies n) [] (by n (w n)) ++ spoken lies n w said
 
-words-append : {W : Type 0} (i : ℕ) (l k : List (Said W)) → wordsBy i (l ++ k) ≡ wordsBy i l ++ wordsBy i k
+pub words-append : {W : Type 0} (i : ℕ) (l k : List (Said W)) → wordsBy i (l ++ k) ≡ wordsBy i l ++ wordsBy i k
 unfolding wordsBy
 words-append i [] k = refl
 words-append i (m ∷ l) k = go (eqb (m .by) i) (words-append i l k)
@@ -35,7 +35,7 @@ words-append i (m ∷ l) k = go (eqb (m .by) i) (words-append i l k)
     go true e = ap (λ ws. m .word ∷ ws) e
     go false e = e
 
-words-own : {W : Type 0} (i : ℕ) (ws : List W) → wordsBy i (by i ws) ≡ ws
+pub words-own : {W : Type 0} (i : ℕ) (ws : List W) → wordsBy i (by i ws) ≡ ws
 unfolding wordsBy
 words-own i [] = refl
 words-own i (w ∷ ws) = rw (eq-eqb i i refl) (ap (λ l. w ∷ l) (words-own i ws))
@@ -179,9 +179,11 @@ module _ (s : Setting) (lies : ℕ → Bool) (said : Lines) (shares : ℕ → Sh
     tells = λ i j hi hj ne. spoken-honest lies _ (said .mail 2 j) i n (honest i hi) (hi .0 .0) ∙ ap (λ c. cond c [] (tellsTo s i (hand1 i) j ∷ [])) (ne-eqb i j ne);
     complains = λ i hi. spoken-honest lies _ (said .board 3) i n (honest i hi) (hi .0 .0);
     judges = λ i hi. spoken-honest lies _ (said .board 5) i n (honest i hi) (hi .0 .0);
-    quietMail = quiet-mail;
-    quietBoard = quiet-board;
   }
+
+  quietly : Quiet s lies run
+  unfolding run
+  quietly = record { mail = quiet-mail; board = quiet-board }
 
   dealer : Honest (group s lies) (s .dealer) → ((j : ℕ) → wordsBy (s .dealer) (run .mail 1 j) ≡ Deal (shares j) ∷ []) × (wordsBy (s .dealer) (run .board 4) ≡ answersOf s shares (board s run 3))
   unfolding run mails boards board
@@ -209,4 +211,4 @@ module _ (s : Setting) (lies : ℕ → Bool) (said : Lines) (shares : ℕ → Sh
 
 pub can-follow : CanFollow
 unfolding run
-can-follow s lies said shares = (run s lies said shares, follows s lies said shares, dealer s lies said shares, λ r i l. (liar-mail s lies said shares r i l, liar-board s lies said shares r i l))
+can-follow s lies said shares = (run s lies said shares, follows s lies said shares, quietly s lies said shares, dealer s lies said shares, λ r i l. (liar-mail s lies said shares r i l, liar-board s lies said shares r i l))

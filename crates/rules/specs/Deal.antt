@@ -9,7 +9,8 @@ use Rattle.std.specs.declared.option.Option.{Option}
 use Rattle.std.specs.declared.option.Option.the-variants.{Some, None}
 use Rattle.algebra.specs.Prime.{Prime}
 use Rattle.algebra.specs.Counting.{count}
-use Rattle.algebra.specs.Polynomial.{Low, Exact2}
+use lib.ListN.{length}
+use Rattle.algebra.specs.Polynomial.{Exact2}
 use Rattle.algebra.specs.Sharing.{Share, Pair, swap, pairAt, Agree, shareOf}
 
 -- Keepers 0 to 3 f; keeper i stands at the point i + 1. takes: who takes part; lies: who doesn't keep the rules.
@@ -41,9 +42,9 @@ Keeper g i = (i < size g) × T (g .takes i)
 abbrev pub Honest : Group → ℕ → Type 0
 Honest g i = Keeper g i × (T (g .lies i) → ⊥)
 
--- high: the bound for the first unknown's degree, low: for the second's
-abbrev pub Lowly : (high low : ℕ) → Share → Type 0
-Lowly high low s = Low high (s .across) × Low low (s .down)
+-- a share has the right lengths: high coefficients across, low down
+abbrev pub Lengths : (high low : ℕ) → Share → Type 0
+Lengths high low s = (length (s .across) ≡ high) × (length (s .down) ≡ low)
 
 -- What happened in one dealing. dealt: the share that each keeper took; told j i: what i heard from j; complaints i j: what i says on the board that it has at j's point;
 -- reveals: what the dealer shows of a keeper's share; fine: who said that all fits.
@@ -58,16 +59,16 @@ pub record Dealing : Type 0 where
 abbrev pub Doubts : Group → Dealing → (i j : ℕ) → Type 0
 Doubts g d i j = (i ≡ j → ⊥) × (d .told j i ≡ Some (swap (pairAt (g .p) (d .dealt i) j)) → ⊥)
 
--- All fits for keeper i: it isn't revealed, what is revealed is low enough and agrees with its own share, and two that complain about each other say the same, or one is revealed.
+-- All fits for keeper i: it isn't revealed, what is revealed is of the right lengths and agrees with its own share, and two that complain about each other say the same, or one is revealed.
 pub record Fits (g : Group) (high low : ℕ) (d : Dealing) (i : ℕ) : Type 0 where
   pub hidden : d .reveals i ≡ None
-  pub shown : (k : ℕ) → Keeper g k → (s : Share) → d .reveals k ≡ Some s → Lowly high low s × Agree (g .p) i (d .dealt i) k s
+  pub shown : (k : ℕ) → Keeper g k → (s : Share) → d .reveals k ≡ Some s → Lengths high low s × Agree (g .p) i (d .dealt i) k s
   pub settled : (a : ℕ) → Keeper g a → (b : ℕ) → Keeper g b → (x y : Pair) → d .complaints a b ≡ Some x → d .complaints b a ≡ Some y → d .reveals a ≡ None → d .reveals b ≡ None → x ≡ swap y
 
 -- The rules, for the honest keepers: what makes an accepted dealing one polynomial.
 pub record Kept (g : Group) (high low : ℕ) (d : Dealing) : Type 0 where
-  -- a share is taken only if its degrees are low enough and it agrees with itself, else zeros are
-  pub shares : (i : ℕ) → Honest g i → Lowly high low (d .dealt i) × Agree (g .p) i (d .dealt i) i (d .dealt i)
+  -- a share is taken only if it has the right lengths and it agrees with itself, else zeros are
+  pub shares : (i : ℕ) → Honest g i → Lengths high low (d .dealt i) × Agree (g .p) i (d .dealt i) i (d .dealt i)
   pub tells : (i j : ℕ) → Honest g i → Keeper g j → (i ≡ j → ⊥) → d .told i j ≡ Some (pairAt (g .p) (d .dealt i) j)
   -- whoever has reason to complains, and says what it has
   pub complains : (i j : ℕ) → Honest g i → Keeper g j → Doubts g d i j → d .complaints i j ≡ Some (pairAt (g .p) (d .dealt i) j)

@@ -8,7 +8,8 @@ use Rattle.algebra.specs.Polynomial.{value2, Low2, plus2}
 use Rattle.algebra.specs.Sharing.{point, Pair, Share, swap, pairAt, shareOf, Of}
 use Rattle.std.specs.declared.option.Option.the-variants.{Some, None}
 use Rattle.rules.specs.Deal.{Group, Sound, Keeper, Honest, Dealing, Kept, Strict, Fair, SeenDeal, isAccepted, own}
-use Rattle.rules.specs.Rounds.{Setting, Lines, keepers, group, Follows, Deals, Deal, readOff, wordsBy, answersOf, hand, board}
+use Rattle.rules.specs.Play.{Sitting, Possible, Play, Plays, settingOf, Played}
+use Rattle.rules.specs.Rounds.{Setting, Lines, keepers, group, Follows, Quiet, Deals, Deal, readOff, wordsBy, answersOf, hand, board}
 
 -- MAIN. Whatever the dealer and the liars do: if a dealing is accepted, there is one polynomial, of the stated degrees, that the shares of all honest keepers are of.
 abbrev pub Main : Type 0
@@ -56,6 +57,10 @@ DealsFairly =
 abbrev pub CanFollow : Type 0
 CanFollow =
     (s : Setting) (lies : ℕ → Bool) (said : Lines) (shares : ℕ → Share) →
-    (lines : Lines) × Follows s lies lines (hand s lines) (board s lines) ×
+    (lines : Lines) × Follows s lies lines (hand s lines) (board s lines) × Quiet s lies lines ×
     (Honest (group s lies) (s .dealer) → ((j : ℕ) → wordsBy (s .dealer) (lines .mail 1 j) ≡ Deal (shares j) ∷ []) × (wordsBy (s .dealer) (lines .board 4) ≡ answersOf s shares (board s lines 3))) ×
     ((r i : ℕ) → lies i ≡ true → ((j : ℕ) → wordsBy i (lines .mail r j) ≡ wordsBy i (said .mail r j)) × (wordsBy i (lines .board r) ≡ wordsBy i (said .board r)))
+
+-- FROM BYTES TO THE RULES. Any f up to 5, any liars, any bytes of theirs to anybody and on the board, all in any order; keepers that keep the rules run their seats, and what they say comes within its round: what happened is a dealing that keeps the rules.
+abbrev pub PlaysKeep : Type 0
+PlaysKeep = (k : Sitting) → Possible k → (lies : ℕ → Bool) (m : Play) → Plays k lies m → (h : ℕ) → Honest (group (settingOf k) lies) h → Played k lies m h

@@ -3,7 +3,7 @@ use mathlib.Core.Path.{_≡_}
 use mathlib.Core.Bool.{Bool, true, false, cond, not, _&&_, _||_}
 use mathlib.Core.List.{List, [], _∷_, _++_, foldl}
 use Prim.Native.Nat.{ℕ, zero, suc, _+_, _*_}
-use lib.Dec.{eqb, leb, ltb}
+use lib.Dec.{eqb, ltb}
 use lib.ListN.{length, getD, set, replicate}
 use Rattle.std.specs.declared.option.Option.{Option}
 use Rattle.std.specs.declared.option.Option.the-variants.{Some, None}
@@ -135,9 +135,9 @@ board s lines (suc r) = foldl (posted s (suc r)) (board s lines r) (lines .board
 abbrev pub same : Pair → Pair → Bool
 same a b = eqb (a .across) (b .across) && eqb (a .down) (b .down)
 
--- the degrees are low enough
-abbrev pub lowly : Setting → Share → Bool
-lowly s x = leb (length (x .across)) (s .high) && leb (length (x .down)) (s .low)
+-- the lengths are right
+abbrev pub lengths : Setting → Share → Bool
+lengths s x = eqb (length (x .across)) (s .high) && eqb (length (x .down)) (s .low)
 
 -- as many zeros as are asked for
 abbrev pub zeros : Setting → Share
@@ -146,7 +146,7 @@ zeros s = record { across = replicate (s .high) 0; down = replicate (s .low) 0 }
 -- the share that a keeper goes on with: zeros for a bad one, or for none
 abbrev pub checked : Setting → ℕ → Option Share → Share
 checked s me None = zeros s
-checked s me (Some x) = cond (lowly s x && same (pairAt (s .p) x me) (swap (pairAt (s .p) x me))) x (zeros s)
+checked s me (Some x) = cond (lengths s x && same (pairAt (s .p) x me) (swap (pairAt (s .p) x me))) x (zeros s)
 
 -- the share that a keeper goes on with, by what it heard
 abbrev pub mine : Setting → ℕ → Hand → Share
@@ -187,10 +187,10 @@ wrong s shares q k b = differs (complaint q k b) (pairAt (s .p) (shares k) b)
 abbrev pub answersOf : Setting → (ℕ → Share) → Posts → List Post
 answersOf s shares q = gather (keepers s) (λ k. any (keepers s) (wrong s shares q k)) (λ k. Reveal k (shares k))
 
--- what is revealed is low enough and agrees
+-- what is revealed has the right lengths and agrees
 abbrev pub shows : Setting → ℕ → Share → ℕ → Option Share → Bool
 shows s me x k None = true
-shows s me x k (Some y) = lowly s y && same (pairAt (s .p) x k) (swap (pairAt (s .p) y me))
+shows s me x k (Some y) = lengths s y && same (pairAt (s .p) x k) (swap (pairAt (s .p) y me))
 
 -- two that complain about each other say the same, or one is revealed
 abbrev pub settles : Option Pair → Option Pair → Option Share → Option Share → Bool
@@ -216,9 +216,11 @@ pub record Follows (s : Setting) (lies : ℕ → Bool) (lines : Lines) (hand : �
   pub tells : (i j : ℕ) → Honest (group s lies) i → Keeper (group s lies) j → (i ≡ j → ⊥) → wordsBy i (lines .mail 2 j) ≡ tellsTo s i (hand 1 i) j ∷ []
   pub complains : (i : ℕ) → Honest (group s lies) i → wordsBy i (lines .board 3) ≡ complaintsOf s i (hand 2 i)
   pub judges : (i : ℕ) → Honest (group s lies) i → wordsBy i (lines .board 5) ≡ Fine (allFits s i (mine s i (hand 4 i)) (board 4)) ∷ []
-  -- and they say nothing else, but for what the dealer says
-  pub quietMail : (r i j : ℕ) → Honest (group s lies) i → ((r ≡ 1) × (i ≡ s .dealer) → ⊥) → ((r ≡ 2) × (i ≡ j → ⊥) → ⊥) → wordsBy i (lines .mail r j) ≡ []
-  pub quietBoard : (r i : ℕ) → Honest (group s lies) i → (r ≡ 3 → ⊥) → ((r ≡ 4) × (i ≡ s .dealer) → ⊥) → (r ≡ 5 → ⊥) → wordsBy i (lines .board r) ≡ []
+
+-- and they say nothing else, but for what the dealer says
+pub record Quiet (s : Setting) (lies : ℕ → Bool) (lines : Lines) : Type 0 where
+  pub mail : (r i j : ℕ) → Honest (group s lies) i → ((r ≡ 1) × (i ≡ s .dealer) → ⊥) → ((r ≡ 2) × (i ≡ j → ⊥) → ⊥) → wordsBy i (lines .mail r j) ≡ []
+  pub board : (r i : ℕ) → Honest (group s lies) i → (r ≡ 3 → ⊥) → ((r ≡ 4) × (i ≡ s .dealer) → ⊥) → (r ≡ 5 → ⊥) → wordsBy i (lines .board r) ≡ []
 
 -- an honest dealer draws as many numbers as are asked for, gives each keeper the share of that polynomial, and answers
 pub record Deals (s : Setting) (lies : ℕ → Bool) (lines : Lines) (board : ℕ → Posts) (rs : List (List ℕ)) : Type 0 where

@@ -1,5 +1,6 @@
 // The rules of one dealing and what follows from them. Each function below stands for a theorem, which is its contract; it computes nothing.
-ghost use Rattle.rules.specs.Promise.{CanFollow, DealsFairly, FairPasses, FairShows, HidesDealing, KeepsRules, Main};
+ghost use Rattle.rules.specs.Promise.{CanFollow, DealsFairly, FairPasses, FairShows, HidesDealing, KeepsRules, Main, PlaysKeep};
+ghost use Rattle.rules.specs.Wire.{ReadsWhatIsWritten};
 
 // An accepted dealing is of one polynomial.
 pub fn main_promise()
@@ -34,4 +35,14 @@ pub fn deals_fairly()
 // There are such messages, whatever liars say.
 pub fn can_follow()
     ensures { λ _. ⌜ CanFollow ⌝ }
+{}
+
+// Bytes are read as a message if and only if they are its bytes and it is in range.
+pub fn reads_what_is_written()
+    ensures { λ _. ⌜ ReadsWhatIsWritten ⌝ }
+{}
+
+// A dealing that is played with bytes keeps the rules.
+pub fn plays_keep()
+    ensures { λ _. ⌜ PlaysKeep ⌝ }
 {}
