@@ -7,7 +7,6 @@ ghost use Rattle.rules.specs.Rounds.{nothingHeard, nothingPosted};
 ghost use Rattle.rules.specs.Seat.{called, decided, ownDeal, ownShare, seated};
 ghost use Rattle.std.specs.Options.{Cases, mapped};
 ghost use mathlib.Core.Path.{_≡_};
-
 use crate::types::Board;
 use crate::types::Hand;
 use crate::types::Round;
@@ -29,7 +28,13 @@ impl Terms {
         if shape.high() > f as usize + 1 || shape.low() > f as usize + 1 {
             return None;
         }
-        Some(Terms { f, night, dealer, me, shape })
+        Some(Terms {
+            f,
+            night,
+            dealer,
+            me,
+            shape,
+        })
     }
 }
 
@@ -37,7 +42,10 @@ impl Hand {
     pub(crate) fn empty() -> Hand
         ensures { λ r. ⌜ handOf r ≡ nothingHeard ⌝ }
     {
-        Hand { share: None, told: [None; 16] }
+        Hand {
+            share: None,
+            told: [None; 16],
+        }
     }
 }
 
@@ -45,7 +53,11 @@ impl Board {
     pub(crate) fn empty() -> Board
         ensures { λ r. ⌜ postsOf r ≡ nothingPosted ⌝ }
     {
-        Board { complaints: [[None; 16]; 16], reveals: [None; 16], fines: [None; 16] }
+        Board {
+            complaints: [[None; 16]; 16],
+            reveals: [None; 16],
+            fines: [None; 16],
+        }
     }
 }
 
@@ -54,7 +66,14 @@ impl Seat {
     pub fn new(terms: Terms, chance: Option<Bivariate>) -> Seat
         ensures { λ r. ⌜ stateOf r ≡ seated (mapped rowsOf chance) ⌝ ∗ ⌜ r .terms ≡ terms ⌝ }
     {
-        Seat { terms, round: Round::Before, chance, hand: Hand::empty(), board: Board::empty(), kept: None }
+        Seat {
+            terms,
+            round: Round::Before,
+            chance,
+            hand: Hand::empty(),
+            board: Board::empty(),
+            kept: None,
+        }
     }
 
     // A dealer's share of its own polynomial.

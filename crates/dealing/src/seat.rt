@@ -3,20 +3,20 @@ ghost use Rattle.dealing.specs.Model.{Answered, roundFor, stateOf, termsOf};
 ghost use Rattle.message.specs.Model.{messageOf};
 ghost use Rattle.polynomial.specs.Lists.{held, rowsOf, said};
 ghost use Rattle.rules.specs.Message as rules;
-ghost use Rattle.rules.specs.Seat.{answerTo, boardTaken, complaintTo, judgement, lineOf, mailTaken, mailTo, timely};
+ghost use Rattle.rules.specs.Seat.{answerTo, boardBytes, boardTaken, complaintTo, judgement, lineOf, mailBytes, mailTaken, mailTo, timely};
 ghost use Rattle.std.specs.Options.{mapped};
 ghost use Rattle.std.specs.declared.option.Option.the-variants.{None, Some};
 ghost use lib.Dec.{eqb};
 ghost use mathlib.Core.Bool.{cond};
 ghost use Prim.Native.Nat.{_<_};
 ghost use mathlib.Core.Path.{_≡_};
-
 use crate::types::Answer;
 use crate::types::Kind;
 use crate::types::Refusal;
 use crate::types::Round;
 use crate::types::Seat;
 use message::Message;
+use message::read;
 use polynomial::Bivariate;
 use polynomial::Pair;
 use polynomial::Share;
@@ -45,7 +45,11 @@ impl Seat {
         if !self.timely(Kind::Share, night) {
             return (self, Answer::Refused(Refusal::Untimely));
         }
-        if dealer != self.terms.dealer || from != self.terms.dealer || from == self.terms.me || self.hand.share.is_some() {
+        if dealer != self.terms.dealer
+            || from != self.terms.dealer
+            || from == self.terms.me
+            || self.hand.share.is_some()
+        {
             return (self, Answer::Refused(Refusal::Unentitled));
         }
         let mut next = self;
@@ -62,7 +66,10 @@ impl Seat {
         if !self.timely(Kind::Told, night) {
             return (self, Answer::Refused(Refusal::Untimely));
         }
-        if dealer != self.terms.dealer || from == self.terms.me || self.hand.told_by(from).is_some() {
+        if dealer != self.terms.dealer
+            || from == self.terms.me
+            || self.hand.told_by(from).is_some()
+        {
             return (self, Answer::Refused(Refusal::Unentitled));
         }
         let mut next = self;
@@ -75,14 +82,33 @@ impl Seat {
         ensures { λ r. ⌜ Answered self (mailTaken (termsOf (self .terms)) (stateOf self) from (messageOf message)) r ⌝ }
     {
         match message {
-            Message::Share { night, dealer, share } => self.hear_share(from, night, dealer, share),
-            Message::Told { night, dealer, pair } => self.hear_told(from, night, dealer, pair),
-            Message::Value { .. } if from < self.terms.keepers() => (self, Answer::Refused(Refusal::Untimely)),
+            Message::Share {
+                night,
+                dealer,
+                share,
+            } => self.hear_share(from, night, dealer, share),
+            Message::Told {
+                night,
+                dealer,
+                pair,
+            } => self.hear_told(from, night, dealer, pair),
+            Message::Value { .. } if from < self.terms.keepers() => (
+                self,
+                Answer::Refused(Refusal::Untimely),
+            ),
             _ => (self, Answer::Refused(Refusal::Malformed)),
         }
     }
 
-    fn post_complaint(self, who: u8, night: u32, dealer: u8, by: u8, about: u8, pair: Pair) -> (Seat, Answer)
+    fn post_complaint(
+        self,
+        who: u8,
+        night: u32,
+        dealer: u8,
+        by: u8,
+        about: u8,
+        pair: Pair,
+    ) -> (Seat, Answer)
         ensures { λ r. ⌜ Answered self (boardTaken (termsOf (self .terms)) (stateOf self) who (rules.Complaint night dealer by about (said pair))) r ⌝ }
     {
         if who >= self.terms.keepers() || about >= self.terms.keepers() {
@@ -102,7 +128,14 @@ impl Seat {
         (next, Answer::Taken)
     }
 
-    fn post_reveal(self, who: u8, night: u32, dealer: u8, keeper: u8, share: Share) -> (Seat, Answer)
+    fn post_reveal(
+        self,
+        who: u8,
+        night: u32,
+        dealer: u8,
+        keeper: u8,
+        share: Share,
+    ) -> (Seat, Answer)
         ensures { λ r. ⌜ Answered self (boardTaken (termsOf (self .terms)) (stateOf self) who (rules.Reveal night dealer keeper (held share))) r ⌝ }
     {
         if who >= self.terms.keepers() || keeper >= self.terms.keepers() {
@@ -111,7 +144,10 @@ impl Seat {
         if !self.timely(Kind::Reveal, night) {
             return (self, Answer::Refused(Refusal::Untimely));
         }
-        if dealer != self.terms.dealer || who != self.terms.dealer || self.board.revealed(keeper).is_some() {
+        if dealer != self.terms.dealer
+            || who != self.terms.dealer
+            || self.board.revealed(keeper).is_some()
+        {
             return (self, Answer::Refused(Refusal::Unentitled));
         }
         if !self.board.complained(&self.terms, keeper) {
@@ -144,10 +180,29 @@ impl Seat {
         ensures { λ r. ⌜ Answered self (boardTaken (termsOf (self .terms)) (stateOf self) who (messageOf message)) r ⌝ }
     {
         match message {
-            Message::Complaint { night, dealer, by, about, pair } => self.post_complaint(who, night, dealer, by, about, pair),
-            Message::Reveal { night, dealer, keeper, share } => self.post_reveal(who, night, dealer, keeper, share),
-            Message::Fine { night, dealer, keeper, fine } => self.post_fine(who, night, dealer, keeper, fine),
-            Message::Finished { .. } if who < self.terms.keepers() => (self, Answer::Refused(Refusal::Untimely)),
+            Message::Complaint {
+                night,
+                dealer,
+                by,
+                about,
+                pair,
+            } => self.post_complaint(who, night, dealer, by, about, pair),
+            Message::Reveal {
+                night,
+                dealer,
+                keeper,
+                share,
+            } => self.post_reveal(who, night, dealer, keeper, share),
+            Message::Fine {
+                night,
+                dealer,
+                keeper,
+                fine,
+            } => self.post_fine(who, night, dealer, keeper, fine),
+            Message::Finished { .. } if who < self.terms.keepers() => (
+                self,
+                Answer::Refused(Refusal::Untimely),
+            ),
             _ => (self, Answer::Refused(Refusal::Malformed)),
         }
     }
@@ -156,7 +211,11 @@ impl Seat {
     pub(crate) fn deals(&self) -> Option<Bivariate>
         ensures { λ r. ⌜ mapped rowsOf r ≡ cond (eqb (now (self .entry) .terms .me) (now (self .entry) .terms .dealer)) (mapped rowsOf (now (self .entry) .chance)) None ⌝ }
     {
-        if self.terms.me == self.terms.dealer { self.chance } else { None }
+        if self.terms.me == self.terms.dealer {
+            self.chance
+        } else {
+            None
+        }
     }
 
     // What it sends keeper j in the round that is called.
@@ -170,10 +229,18 @@ impl Seat {
         let dealer = self.terms.dealer;
         match self.round {
             Round::Deal => match self.deals() {
-                Some(dealt) => Some(Message::Share { night, dealer, share: dealt.share(j) }),
+                Some(dealt) => Some(Message::Share {
+                    night,
+                    dealer,
+                    share: dealt.share(j),
+                }),
                 None => None,
             },
-            Round::Tell => Some(Message::Told { night, dealer, pair: self.hand.mine(&self.terms).pair_at(j) }),
+            Round::Tell => Some(Message::Told {
+                night,
+                dealer,
+                pair: self.hand.mine(&self.terms).pair_at(j),
+            }),
             _ => None,
         }
     }
@@ -186,7 +253,13 @@ impl Seat {
             return None;
         }
         let terms = self.terms;
-        Some(Message::Complaint { night: terms.night, dealer: terms.dealer, by: terms.me, about: k, pair: self.hand.mine(&terms).pair_at(k) })
+        Some(Message::Complaint {
+            night: terms.night,
+            dealer: terms.dealer,
+            by: terms.me,
+            about: k,
+            pair: self.hand.mine(&terms).pair_at(k),
+        })
     }
 
     fn answer_to(&self, dealt: &Bivariate, k: u8) -> Option<Message>
@@ -197,7 +270,12 @@ impl Seat {
         if !self.board.wrong(&self.terms, &share, k) {
             return None;
         }
-        Some(Message::Reveal { night: self.terms.night, dealer: self.terms.dealer, keeper: k, share })
+        Some(Message::Reveal {
+            night: self.terms.night,
+            dealer: self.terms.dealer,
+            keeper: k,
+            share,
+        })
     }
 
     fn judgement(&self) -> Message
@@ -205,7 +283,12 @@ impl Seat {
     {
         let terms = self.terms;
         let fine = self.board.all_fits(&terms, &self.hand.mine(&terms));
-        Message::Fine { night: terms.night, dealer: terms.dealer, keeper: terms.me, fine }
+        Message::Fine {
+            night: terms.night,
+            dealer: terms.dealer,
+            keeper: terms.me,
+            fine,
+        }
     }
 
     // What it puts on the board in the round that is called: a line for each keeper k, or none.
@@ -223,6 +306,26 @@ impl Seat {
             },
             Round::Judge if k == self.terms.me => Some(self.judgement()),
             _ => None,
+        }
+    }
+
+    // Takes what keeper `from` sent, or turns it away.
+    pub fn take_mail(self, from: u8, bytes: &[u8]) -> (Seat, Answer)
+        ensures { λ r. ⌜ Answered self (mailBytes (termsOf (self .terms)) (stateOf self) from (now (bytes .entry))) r ⌝ }
+    {
+        match read(bytes, self.terms.keepers(), self.terms.shape) {
+            Ok(message) => self.hear(from, message),
+            Err(_) => (self, Answer::Refused(Refusal::Malformed)),
+        }
+    }
+
+    // Takes a line of the board that keeper `who` put there, or passes it over.
+    pub fn take_board(self, who: u8, bytes: &[u8]) -> (Seat, Answer)
+        ensures { λ r. ⌜ Answered self (boardBytes (termsOf (self .terms)) (stateOf self) who (now (bytes .entry))) r ⌝ }
+    {
+        match read(bytes, self.terms.keepers(), self.terms.shape) {
+            Ok(message) => self.post(who, message),
+            Err(_) => (self, Answer::Refused(Refusal::Malformed)),
         }
     }
 }

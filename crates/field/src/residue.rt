@@ -46,7 +46,14 @@ pub(crate) fn product_plus(a: u64, b: u64, c: u64) -> u64
     let b_low = b & 0xffff_ffff;
     let middle = a_high * b_low + a_low * b_high;
     let low = a_low * b_low;
-    reduce(((a_high * b_high) << 3) + (middle >> 29) + ((middle & 0x1fff_ffff) << 32) + (low & P) + (low >> 61) + c)
+    reduce(
+        ((a_high * b_high) << 3)
+            + (middle >> 29)
+            + ((middle & 0x1fff_ffff) << 32)
+            + (low & P)
+            + (low >> 61)
+            + c,
+    )
 }
 
 pub(crate) fn product(a: u64, b: u64) -> u64

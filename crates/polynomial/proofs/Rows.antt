@@ -1,19 +1,19 @@
 -- What is left of a polynomial in two unknowns with one set, row by row.
 use mathlib.Core.Path.{_≡_, refl, sym, ap, _∙_}
-use mathlib.Core.List.{List, [], _∷_, map}
+use mathlib.Core.List.{List, [], _∷_, map, List·Memᴰ, List·Memᴰ·head, List·Memᴰ·tail}
 use Prim.Native.Nat.{ℕ, zero, suc, _+_, _-_, _*_, _%_, _<_, _≤_}
 use native.Mathlib.Omega.{arith}
 use native.Mathlib.Nat.{suc-mul, zero-mul}
 use lib.ListN.{length, getD, set, take, drop, length-set, length-take}
 use lib.Seq.{drop-cons}
 use Rattle.std.proofs.shelf.Lists.{getD-map, length-map, take-map, drop-map, getD-take, getD-drop, drop-drop, drop-all, ext-getD}
-use Rattle.algebra.specs.Polynomial.{value, plus, times, setFirst, setSecond}
+use Rattle.algebra.specs.Polynomial.{value, plus, times, setFirst, setSecond, Exact, Exact2}
 use Rattle.algebra.specs.Prime.{p}
 use Rattle.field.specs.declared.element.Element.{Element}
 use Rattle.polynomial.specs.declared.types.Polynomial.{Polynomial}
 use Rattle.polynomial.specs.Numbers.{numbers, Clean, cut}
 use Rattle.polynomial.specs.Lists.{coeffs}
-use Rattle.polynomial.proofs.Places.{write-more, clean-set, front-is, view-more}
+use Rattle.polynomial.proofs.Places.{write-more, clean-set, front-is, view-more, length-front}
 use Rattle.polynomial.proofs.Sums.{at}
 
 -- the rows that count
@@ -105,3 +105,21 @@ cut-whole i k n cs rows le ge short c =
   where
     val : Element → ℕ
     val e = e .value
+
+-- the rows of a polynomial have the stated lengths, and all coefficients are below p
+numbers-small : (cs : List Element) (c : ℕ) → List·Memᴰ c (numbers cs) → c < p
+numbers-small [] c m = elim m [ ]
+numbers-small (e ∷ cs) c (List·Memᴰ·head q) = rw q (e .reduced)
+numbers-small (e ∷ cs) c (List·Memᴰ·tail m) = numbers-small cs c m
+
+pub rows-exact : (n l : ℕ) (rows : List Polynomial) → n ≤ length rows → ((k : ℕ) → k < n → getD (lens rows) k 0 ≡ l) → Exact2 p n l (front n rows)
+rows-exact zero l rows h even = record { count = refl; each = λ r m. elim m [ ] }
+rows-exact (suc n) l [] h even = absurd (omega arith)
+rows-exact (suc n) l (f ∷ rows) h even = more (rows-exact n l rows (omega arith) (λ k lt. even (suc k) (omega arith)))
+  where
+    more : Exact2 p n l (front n rows) → Exact2 p (suc n) l (coeffs f ∷ front n rows)
+    more x = record { count = ap suc (x .count); each = each }
+      where
+        each : (r : List ℕ) → List·Memᴰ r (coeffs f ∷ front n rows) → Exact p l r
+        each r (List·Memᴰ·head q) = rw q (record { count = length-front (f .len) (f .coefficients) (omega (arith, f .six, f .short)) ∙ even 0 (omega arith); small = numbers-small (take (f .len) (f .coefficients)) })
+        each r (List·Memᴰ·tail m) = x .each r m

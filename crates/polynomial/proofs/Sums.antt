@@ -7,7 +7,7 @@ use native.Mathlib.Decide.{decLe}
 use native.Mathlib.Nat.{mod-eq-of-lt, mul-zero, zero-mod, zero-mul}
 use lib.ListN.{length, getD, take, drop, set, length-set, length-drop}
 use Rattle.std.proofs.shelf.Lists.{take-map, drop-map, getD-take, getD-drop}
-use Rattle.algebra.specs.Polynomial.{value, plus, times}
+use Rattle.algebra.specs.Polynomial.{plus, times}
 use Rattle.algebra.specs.Prime.{p}
 use Rattle.algebra.proofs.Coefficients.{length-plus, length-times}
 use Rattle.field.specs.declared.element.Element.{Element}
@@ -70,13 +70,6 @@ times-whole n s xs cs ln l hx all =
     front-is n cs (times p (s .value) (numbers (take n xs))) l
     (omega (arith, length-times p (s .value) (numbers (take n xs)), length-front n xs ln))
     (λ k lt. all k (omega arith) ∙ ap (λ z. (s .value * z) % p) (sym (front-same n xs hx k)) ∙ sym (times-at (s .value) (numbers (take n xs)) k))
-
--- the value at 0 is the lowest coefficient
-pub constant-is : (n : ℕ) (cs : List Element) → Clean n cs → at cs 0 ≡ value p (numbers (take n cs)) 0
-unfolding value
-constant-is zero cs h = h 0 (omega arith)
-constant-is (suc n) [] h = refl
-constant-is (suc n) (c ∷ cs) h = sym (ap (λ z. z % p) (omega arith) ∙ mod-eq-of-lt (c .reduced))
 
 -- one more place of a copy
 pub copy-more : (from i : ℕ) (e : Element) (xs cs : List Element) → length cs ≡ 6 → i < 6 → from + i < length xs → e ≡ getD xs (from + i) e → Clean i cs → ((k : ℕ) → k < i → at cs k ≡ at xs (from + k)) →

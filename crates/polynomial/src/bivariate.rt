@@ -1,6 +1,6 @@
 // Polynomials in two unknowns, and their shares.
 ghost use Prim.Native.Nat.{ℕ, _*_, _<_, _≤_};
-ghost use Rattle.algebra.specs.Polynomial.{setFirst, setSecond};
+ghost use Rattle.algebra.specs.Polynomial.{Exact2, setFirst, setSecond};
 ghost use Rattle.algebra.specs.Prime.{p};
 ghost use Rattle.algebra.specs.Sharing.{point, shareOf};
 ghost use Rattle.polynomial.specs.Lists.{coeffs, held, rowsOf};
@@ -42,7 +42,8 @@ impl Shape {
     pub fn size(&self) -> usize
         ensures { λ r. ⌜ r ≡ now (self .entry) .high * now (self .entry) .low ⌝ ∗ ⌜ r ≤ 36 ⌝ }
     {
-        self.high * self.low
+        let Shape { high, low, .. } = *self;
+        high * low
     }
 }
 
@@ -59,6 +60,13 @@ impl Bivariate {
             rows[i] = Polynomial::row(cs, i * shape.low, shape.low);
         }
         Some(Bivariate { rows, shape })
+    }
+
+    // How many coefficients it has, each below p.
+    pub fn shape(&self) -> Shape
+        ensures { λ r. ⌜ r ≡ now (self .entry) .shape ⌝ ∗ ⌜ Exact2 p (r .high) (r .low) (rowsOf (now (self .entry))) ⌝ }
+    {
+        self.shape
     }
 
     // F(x, y) as a polynomial in x.

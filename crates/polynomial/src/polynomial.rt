@@ -76,7 +76,7 @@ impl Polynomial {
     pub fn len(&self) -> usize
         ensures { λ r. ⌜ r ≡ length (coeffs (now (self .entry))) ⌝ ∗ ⌜ r ≤ 6 ⌝ }
     {
-        self.len
+        self.as_slice().len()
     }
 
     // Its coefficients, the lowest first.
@@ -89,14 +89,14 @@ impl Polynomial {
     pub fn evaluate(&self, x: Element) -> Element
         ensures { λ r. ⌜ r .value ≡ value p (coeffs (now (self .entry))) (x .value) ⌝ }
     {
-        horner(&self.coefficients[0..self.len], x)
+        horner(self.as_slice(), x)
     }
 
     // The value at 0.
     pub fn constant(&self) -> Element
         ensures { λ r. ⌜ r .value ≡ value p (coeffs (now (self .entry))) 0 ⌝ }
     {
-        self.coefficients[0]
+        self.evaluate(Element::zero())
     }
 
     pub fn plus(&self, other: &Polynomial) -> Polynomial

@@ -12,9 +12,10 @@ pub add-fines : need.add-fines
 add-fines c = omega (arith, count-bound (c .loop-i .i) (c .loop-i .fines) _ (c .loop-i .inv))
 
 pub loop-i-again : need.loop-i-again
-loop-i-again c = elim (c .if-fine .came)
-    [ then-fine w ↦ w .fines-is ∙ count-yes (c .loop-i .i) (c .loop-i .fines) _ (c .loop-i .inv) (sym (c .fine .ensures) ∙ w .if-fine .taken)
-    | else-fine w ↦ w .fines-is ∙ count-no (c .loop-i .i) (c .loop-i .fines) _ (c .loop-i .inv) (sym (c .fine .ensures) ∙ w .if-fine .left) ]
+loop-i-again c = elim (c .if-fine .came) [
+  | then-fine w ↦ w .fines-is ∙ count-yes (c .loop-i .i) (c .loop-i .fines) _ (c .loop-i .inv) (sym (c .fine .ensures) ∙ w .if-fine .taken)
+  | else-fine w ↦ w .fines-is ∙ count-no (c .loop-i .i) (c .loop-i .fines) _ (c .loop-i .inv) (sym (c .fine .ensures) ∙ w .if-fine .left)
+]
 
 pub returns : need.returns
 returns c = search needs

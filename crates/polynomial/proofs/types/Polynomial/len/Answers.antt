@@ -1,7 +1,7 @@
-use mathlib.Core.Path.{sym}
-use native.Mathlib.Omega.{arith}
-use Rattle.polynomial.proofs.Places.{length-front}
+use mathlib.Core.Path.{sym, ap, _∙_}
+use lib.ListN.{length}
+use Rattle.polynomial.proofs.Places.{length-numbers}
 use Rattle.polynomial.proofs.types.Polynomial.len.Needs as need
 
 pub returns : need.returns
-returns c = let f = c .args .self .now in (sym (length-front (f .len) (f .coefficients) (omega (arith, f .six, f .short))), f .short)
+returns c = (sym (length-numbers (c .as-slice .result .now)) ∙ ap length (c .as-slice .ensures .0), c .as-slice .ensures .1)
