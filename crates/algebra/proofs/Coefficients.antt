@@ -8,7 +8,7 @@ use native.Mathlib.Nat.{mod-lt, mod-eq-of-lt}
 use lib.ListN.{length}
 use Rattle.algebra.specs.Prime.{Prime}
 use Rattle.algebra.specs.Counting.{Distinct}
-use Rattle.algebra.specs.Polynomial.{value, Low2, Exact, Exact2, plus, times, product, plus2, outer, setFirst, setSecond}
+use Rattle.algebra.specs.Polynomial.{value, Low2, Exact, Exact2, plus, times, product, plus2, times2, outer, setFirst, setSecond}
 use Rattle.algebra.specs.Laws.{Apart}
 use Rattle.algebra.proofs.Same.{Same, same, rest, back, equal, so, _⊞_, _⊟_, _⊠_, split, vanishes}
 use Rattle.algebra.proofs.Evaluation.{eval, value-is, agree}
@@ -42,6 +42,24 @@ unfolding eval2 plus2
 plus2-is p [] qs x y = equal (omega arith)
 plus2-is p (r ∷ rs) [] x y = equal (omega arith)
 plus2-is p (r ∷ rs) (q ∷ qs) x y = so (plus-is p r q y ⊞ x ⊠ plus2-is p rs qs x y) (omega arith)
+
+pub times2-is : (p s : ℕ) (rs : List (List ℕ)) (x y : ℕ) → Same p (eval2 (times2 p s rs) x y) (s * eval2 rs x y)
+unfolding eval2 times2
+times2-is p s [] x y = equal (omega arith)
+times2-is p s (r ∷ rs) x y = so (times-is p s r y ⊞ x ⊠ times2-is p s rs x y) (omega arith)
+
+pub low-times2 : (p s d e : ℕ) (rs : List (List ℕ)) → Low2 d e rs → Low2 d e (times2 p s rs)
+unfolding times2
+low-times2 p s d e rs l = record { rows = omega (arith, long rs, l .rows); each = each rs (l .each) }
+  where
+    long : (rs : List (List ℕ)) → length (times2 p s rs) ≡ length rs
+    long [] = refl
+    long (r ∷ rs) = ap suc (long rs)
+
+    each : (rs : List (List ℕ)) → ((r : List ℕ) → List·Memᴰ r rs → length r ≤ e) → (r : List ℕ) → List·Memᴰ r (times2 p s rs) → length r ≤ e
+    each [] h r m = elim m [ ]
+    each (q ∷ rs) h r (List·Memᴰ·head w) = rw w (omega (arith, length-times p s q, h q (List·Memᴰ·head refl)))
+    each (q ∷ rs) h r (List·Memᴰ·tail m) = each rs (λ a b. h a (List·Memᴰ·tail b)) r m
 
 pub first-is : (p : ℕ) (rs : List (List ℕ)) (x y : ℕ) → Same p (eval (setFirst p rs x) y) (eval2 rs x y)
 unfolding eval eval2 setFirst

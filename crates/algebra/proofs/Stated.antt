@@ -8,13 +8,13 @@ use native.Mathlib.Nat.{mod-lt, mod-eq-of-lt}
 use lib.ListN.{length}
 use Rattle.algebra.specs.Prime.{Prime}
 use Rattle.algebra.specs.Polynomial.{value, value2, Exact, Exact2, setFirst, setSecond}
-use Rattle.algebra.specs.Laws.{FewRoots, Determined, Interpolation, InterpolationOfNumbers, Vanishing, Linear, Linearity, Inverses, Shares}
+use Rattle.algebra.specs.Laws.{FewRoots, Determined, Interpolation, InterpolationOfNumbers, Vanishing, Linear, Linearity, Inverses, Shares, MovesApart}
 use Rattle.algebra.proofs.Same.{Same, same, rest, back, so, none, _⊞_, _⊟_, _⊠_}
 use Rattle.algebra.proofs.Evaluation.{eval, value-is, down, agree}
 use Rattle.algebra.proofs.Inverse.{inverse}
 use Rattle.algebra.proofs.Rows.{eval2, value2-is, column, column-is, length-column, through, Through}
 use Rattle.algebra.proofs.Mask.{vanishing, Vanishes}
-use Rattle.algebra.proofs.Coefficients.{plus-is, length-plus, times-is, length-times, product-is, length-product, plus2-is, outer-is, low-outer, first-is, second-is, exact-first, exact-second, determined}
+use Rattle.algebra.proofs.Coefficients.{plus-is, length-plus, times-is, length-times, product-is, length-product, plus2-is, times2-is, outer-is, low-outer, first-is, second-is, exact-first, exact-second, determined, apart-plus2}
 
 -- between values and whole numbers
 pub of-values : (p : ℕ) (cs ds : List ℕ) (x y : ℕ) → value p cs x ≡ value p ds y → Same p (eval cs x) (eval ds y)
@@ -51,6 +51,7 @@ linearity p = record {
   of-times = λ s cs x. down p _ x (so (times-is p s cs x ⊟ s ⊠ back p (value-is p cs x)) (omega arith));
   of-product = λ cs ds x. down p _ x (so (product-is p cs ds x ⊟ eval ds x ⊠ back p (value-is p cs x) ⊟ value p cs x ⊠ back p (value-is p ds x)) (omega arith));
   of-plus2 = λ rs qs x y. value2-is p _ x y ∙ rest (so (plus2-is p rs qs x y ⊟ back p (value2-is p rs x y) ⊟ back p (value2-is p qs x y)) (omega arith));
+  of-times2 = λ s rs x y. value2-is p _ x y ∙ rest (so (times2-is p s rs x y ⊟ s ⊠ back p (value2-is p rs x y)) (omega arith));
   of-outer = λ cs ds x y. value2-is p _ x y ∙ rest (so (outer-is p cs ds x y ⊟ eval ds y ⊠ back p (value-is p cs x) ⊟ value p cs x ⊠ back p (value-is p ds y)) (omega arith));
   long-plus = length-plus p;
   long-times = length-times p;
@@ -73,3 +74,6 @@ shares p rs = record {
   down = λ x y. down p _ y (first-is p rs x y) ∙ sym (value2-is p rs x y);
   exact = λ d e one many x z. (record { count = exact-second p rs z one .count ∙ x .count; small = exact-second p rs z one .small }, exact-first p e rs z one (omega (arith, x .count)) (x .each));
 }
+
+pub moves-apart : MovesApart
+moves-apart = apart-plus2

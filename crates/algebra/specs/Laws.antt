@@ -5,7 +5,7 @@ use mathlib.Core.List.{List, [], _∷_, List·Memᴰ}
 use Prim.Native.Nat.{ℕ, suc, max, _+_, _*_, _%_, _<_, _≤_}
 use lib.ListN.{length}
 use Rattle.algebra.specs.Prime.{Prime}
-use Rattle.algebra.specs.Polynomial.{value, value2, setFirst, setSecond, plus, times, product, plus2, outer, Low2, Exact, Exact2}
+use Rattle.algebra.specs.Polynomial.{value, value2, setFirst, setSecond, plus, times, product, plus2, times2, outer, Low2, Exact, Exact2}
 
 -- no two of these stand at the same point modulo p
 unfoldable pub Apart : ℕ → (ℕ → ℕ) → List ℕ → Type 0
@@ -47,6 +47,7 @@ pub record Linear (p : ℕ) : Type 0 where
   pub of-times : (s : ℕ) (cs : List ℕ) (x : ℕ) → value p (times p s cs) x ≡ (s * value p cs x) % p
   pub of-product : (cs ds : List ℕ) (x : ℕ) → value p (product p cs ds) x ≡ (value p cs x * value p ds x) % p
   pub of-plus2 : (rs qs : List (List ℕ)) (x y : ℕ) → value2 p (plus2 p rs qs) x y ≡ (value2 p rs x y + value2 p qs x y) % p
+  pub of-times2 : (s : ℕ) (rs : List (List ℕ)) (x y : ℕ) → value2 p (times2 p s rs) x y ≡ (s * value2 p rs x y) % p
   pub of-outer : (cs ds : List ℕ) (x y : ℕ) → value2 p (outer p cs ds) x y ≡ (value p cs x * value p ds y) % p
   pub long-plus : (cs ds : List ℕ) → length (plus p cs ds) ≡ max (length cs) (length ds)
   pub long-times : (s : ℕ) (cs : List ℕ) → length (times p s cs) ≡ length cs
@@ -68,3 +69,7 @@ pub record Shared (p : ℕ) (rs : List (List ℕ)) : Type 0 where
 
 abbrev pub Shares : Type 0
 Shares = (p : ℕ) (rs : List (List ℕ)) → Shared p rs
+
+-- No two polynomials come to the same by adding a third.
+abbrev pub MovesApart : Type 0
+MovesApart = (p d e : ℕ) → 1 ≤ p → (qs rs ss : List (List ℕ)) → Exact2 p d e rs → Exact2 p d e ss → plus2 p rs qs ≡ plus2 p ss qs → rs ≡ ss

@@ -39,11 +39,15 @@ unfoldable pub product : (p : ℕ) → List ℕ → List ℕ → List ℕ
 product p [] ds = []
 product p (c ∷ cs) ds = plus p (times p c ds) (0 ∷ product p cs ds)
 
--- in two unknowns: the sum, row by row, and the product of a polynomial in x and one in y
+-- in two unknowns: sums and multiples, row by row, and the product of a polynomial in x and one in y
 unfoldable pub plus2 : (p : ℕ) → List (List ℕ) → List (List ℕ) → List (List ℕ)
 plus2 p [] qs = qs
 plus2 p (r ∷ rs) [] = r ∷ rs
 plus2 p (r ∷ rs) (q ∷ qs) = plus p r q ∷ plus2 p rs qs
+
+unfoldable pub times2 : (p : ℕ) → ℕ → List (List ℕ) → List (List ℕ)
+times2 p s [] = []
+times2 p s (r ∷ rs) = times p s r ∷ times2 p s rs
 
 unfoldable pub outer : (p : ℕ) → List ℕ → List ℕ → List (List ℕ)
 outer p [] ds = []

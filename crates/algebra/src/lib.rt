@@ -1,5 +1,5 @@
 // The laws of polynomials modulo a prime. Each function below stands for a law, which is its contract; it computes nothing.
-ghost use Rattle.algebra.specs.Laws.{Determined, FewRoots, Interpolation, InterpolationOfNumbers, Inverses, Linearity, Shares, Vanishing};
+ghost use Rattle.algebra.specs.Laws.{Determined, FewRoots, Interpolation, InterpolationOfNumbers, Inverses, Linearity, MovesApart, Shares, Vanishing};
 ghost use Rattle.algebra.specs.Prime.{Prime, p};
 
 // 2^61 - 1 is a prime.
@@ -45,4 +45,9 @@ pub fn inverses()
 // A share has the values of the polynomial that it is of.
 pub fn shares()
     ensures { λ _. ⌜ Shares ⌝ }
+{}
+
+// No two polynomials come to the same by adding a third.
+pub fn moves_apart()
+    ensures { λ _. ⌜ MovesApart ⌝ }
 {}

@@ -3,10 +3,12 @@ pub mod Slots
 pub mod Dealt
 pub mod Fairly
 pub mod Unseen
+pub mod Masked
 pub mod Places
 pub mod Keeping
 pub mod Playing
 pub mod Steps
 pub mod Sat
+pub mod Whole
 pub mod Bytes
 pub mod Reading

@@ -3,13 +3,14 @@ use mathlib.Core.Path.{_≡_}
 use mathlib.Core.Bool.{Bool, cond}
 use mathlib.Core.List.{List, [], _∷_, _++_, map, foldl}
 use Prim.Native.Nat.{ℕ, zero, suc, _+_, _*_, _<_, _≤_, _^_}
-use lib.Dec.{eqb}
+use lib.Dec.{T, eqb}
 use Rattle.std.specs.declared.option.Option.{Option}
 use Rattle.std.specs.declared.option.Option.the-variants.{Some, None}
 use Rattle.std.specs.Vec.{listOf}
 use Rattle.algebra.specs.Prime.{p}
-use Rattle.algebra.specs.Polynomial.{value, Exact2}
-use Rattle.rules.specs.Deal.{Honest, Dealing, Kept, Strict, Fair, own}
+use Rattle.algebra.specs.Polynomial.{value, value2, Low2, Exact2}
+use Rattle.algebra.specs.Sharing.{point, Pair, swap, pairAt, shareOf, Of}
+use Rattle.rules.specs.Deal.{Keeper, Honest, Dealing, Kept, Strict, Fair, own}
 use Rattle.rules.specs.Rounds.{Setting, group, Said, wordsBy, readOff}
 use Rattle.rules.specs.Wire.{wire, when}
 use Rattle.rules.specs.Seat.{Terms, State, mailBytes, boardBytes, mailTo, lineOf, called, seated, accepted}
@@ -101,3 +102,17 @@ pub record Played (k : Sitting) (lies : ℕ → Bool) (m : Play) (h : ℕ) : Typ
   pub fair : (rs : List (List ℕ)) → m .chance ≡ Some rs → Exact2 p (k .high) (k .low) rs → Honest (group (settingOf k) lies) (k .dealer) → Fair (group (settingOf k) lies) (k .high) (k .low) rs (overall k m h)
   pub keeps : atCall k m 5 h .kept ≡ when (accepted (settingOf k) (after k m 5 h .posts)) (value p (own (overall k m h) h .across) 0)
   pub same : (j : ℕ) → Honest (group (settingOf k) lies) j → after k m 5 h .posts ≡ after k m 5 j .posts
+
+-- WHAT IS PROMISED of a dealing played with bytes, as keeper h sees it. If it is accepted, there is one polynomial of the stated lengths that the shares of all honest keepers are of, and each keeps its value of it at 0.
+pub record One (k : Sitting) (lies : ℕ → Bool) (m : Play) (h : ℕ) : Type 0 where
+  pub rows : List (List ℕ)
+  pub low : Low2 (k .high) (k .low) rows
+  pub shares : (i : ℕ) → Honest (group (settingOf k) lies) i → Of p rows i (own (overall k m h) i)
+  pub values : (i : ℕ) → Honest (group (settingOf k) lies) i → atCall k m 5 i .kept ≡ Some (value2 p rows 0 (point i))
+
+-- An honest dealer's dealing is accepted; the honest keepers have what was dealt, and none of them is revealed; and whatever they complain of is about liars, with numbers that these hold themselves.
+pub record Passes (k : Sitting) (lies : ℕ → Bool) (m : Play) (h : ℕ) (rs : List (List ℕ)) : Type 0 where
+  pub accepts : T (accepted (settingOf k) (after k m 5 h .posts))
+  pub dealt : (i : ℕ) → Honest (group (settingOf k) lies) i → own (overall k m h) i ≡ shareOf p rs i
+  pub hidden : (i : ℕ) → Honest (group (settingOf k) lies) i → overall k m h .reveals i ≡ None
+  pub shows : (i j : ℕ) → Honest (group (settingOf k) lies) i → Keeper (group (settingOf k) lies) j → (x : Pair) → overall k m h .complaints i j ≡ Some x → T (lies j) × (x ≡ swap (pairAt p (shareOf p rs j) i))

@@ -2,13 +2,17 @@
 use mathlib.Core.Path.{_≡_}
 use mathlib.Core.Bool.{Bool, true}
 use mathlib.Core.List.{List, [], _∷_, List·Memᴰ}
-use Prim.Native.Nat.{ℕ, _+_, _<_, _≤_}
+use Prim.Native.Nat.{ℕ, _+_, _*_, _%_, _<_, _≤_}
 use lib.Dec.{T}
-use Rattle.algebra.specs.Polynomial.{value2, Low2, plus2}
+use lib.ListN.{length}
+use Rattle.algebra.specs.Prime.{p}
+use Rattle.algebra.specs.Counting.{count}
+use Rattle.algebra.specs.Polynomial.{value2, Low2, Exact2, plus2, times2}
+use Rattle.rules.specs.Seat.{accepted}
 use Rattle.algebra.specs.Sharing.{point, Pair, Share, swap, pairAt, shareOf, Of}
 use Rattle.std.specs.declared.option.Option.the-variants.{Some, None}
 use Rattle.rules.specs.Deal.{Group, Sound, Keeper, Honest, Dealing, Kept, Strict, Fair, SeenDeal, isAccepted, own}
-use Rattle.rules.specs.Play.{Sitting, Possible, Play, Plays, settingOf, Played}
+use Rattle.rules.specs.Play.{Sitting, Possible, Play, Plays, settingOf, after, Played, One, Passes}
 use Rattle.rules.specs.Rounds.{Setting, Lines, keepers, group, Follows, Quiet, Deals, Deal, readOff, wordsBy, answersOf, hand, board}
 
 -- MAIN. Whatever the dealer and the liars do: if a dealing is accepted, there is one polynomial, of the stated degrees, that the shares of all honest keepers are of.
@@ -41,6 +45,16 @@ HidesDealing =
     (qs : List (List ℕ)) → Low2 high low qs → ((s : ℕ) → List·Memᴰ s spied → Unseen g qs s) →
     (e : Dealing) × Kept g high low e × Strict g high low e × Fair g high low (plus2 (g .p) rs qs) e × SeenDeal g spied d e
 
+-- So the secret is hidden from any f: there is one polynomial Z, given by who the f are, multiples of which take any polynomial with any secret to one with any other, and nothing that they see changes. (No two are taken to the same, so each secret fits equally often.)
+abbrev pub HidesSecret : Type 0
+HidesSecret =
+    (g : Group) → Sound g → (spied : List ℕ) → length spied ≤ g .f → ((i : ℕ) → List·Memᴰ i spied → Keeper g i) → ((i : ℕ) → Keeper g i → T (g .lies i) → List·Memᴰ i spied) →
+    (Z : List (List ℕ)) × Low2 (g .f + 1) (g .f + 1) Z ×
+    ((rs : List (List ℕ)) (d : Dealing) → Kept g (g .f + 1) (g .f + 1) d → Strict g (g .f + 1) (g .f + 1) d → Fair g (g .f + 1) (g .f + 1) rs d → (δ : ℕ) →
+    let ts = plus2 (g .p) rs (times2 (g .p) δ Z) in
+    (value2 (g .p) ts 0 0 ≡ (value2 (g .p) rs 0 0 + δ) % g .p) ×
+    ((e : Dealing) × Kept g (g .f + 1) (g .f + 1) e × Strict g (g .f + 1) (g .f + 1) e × Fair g (g .f + 1) (g .f + 1) ts e × SeenDeal g spied d e))
+
 -- MESSAGE BY MESSAGE. Whatever the liars do, and in whatever order words come: what happened keeps the rules of a dealing,
 abbrev pub KeepsRules : Type 0
 KeepsRules =
@@ -64,3 +78,10 @@ CanFollow =
 -- FROM BYTES TO THE RULES. Any f up to 5, any liars, any bytes of theirs to anybody and on the board, all in any order; keepers that keep the rules run their seats, and what they say comes within its round: what happened is a dealing that keeps the rules.
 abbrev pub PlaysKeep : Type 0
 PlaysKeep = (k : Sitting) → Possible k → (lies : ℕ → Bool) (m : Play) → Plays k lies m → (h : ℕ) → Honest (group (settingOf k) lies) h → Played k lies m h
+
+-- ONE DEALING, PLAYED WITH BYTES, with at most f liars.
+abbrev pub OneDealing : Type 0
+OneDealing =
+    (k : Sitting) → Possible k → (lies : ℕ → Bool) → count (3 * k .f + 1) lies ≤ k .f → (m : Play) → Plays k lies m → (h : ℕ) → Honest (group (settingOf k) lies) h →
+    (T (accepted (settingOf k) (after k m 5 h .posts)) → One k lies m h) ×
+    ((rs : List (List ℕ)) → m .chance ≡ Some rs → Exact2 p (k .high) (k .low) rs → Honest (group (settingOf k) lies) (k .dealer) → Passes k lies m h rs)

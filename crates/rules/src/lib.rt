@@ -1,5 +1,5 @@
 // The rules of one dealing and what follows from them. Each function below stands for a theorem, which is its contract; it computes nothing.
-ghost use Rattle.rules.specs.Promise.{CanFollow, DealsFairly, FairPasses, FairShows, HidesDealing, KeepsRules, Main, PlaysKeep};
+ghost use Rattle.rules.specs.Promise.{CanFollow, DealsFairly, FairPasses, FairShows, HidesDealing, HidesSecret, KeepsRules, Main, OneDealing, PlaysKeep};
 ghost use Rattle.rules.specs.Wire.{ReadsWhatIsWritten};
 
 // An accepted dealing is of one polynomial.
@@ -20,6 +20,11 @@ pub fn fair_shows()
 // It could as well have been another one.
 pub fn hides_dealing()
     ensures { λ _. ⌜ HidesDealing ⌝ }
+{}
+
+// And its secret any other.
+pub fn hides_secret()
+    ensures { λ _. ⌜ HidesSecret ⌝ }
 {}
 
 // Message by message, a dealing keeps the rules.
@@ -45,4 +50,9 @@ pub fn reads_what_is_written()
 // A dealing that is played with bytes keeps the rules.
 pub fn plays_keep()
     ensures { λ _. ⌜ PlaysKeep ⌝ }
+{}
+
+// With at most f liars: accepted, it is of one polynomial; and an honest dealer's is accepted.
+pub fn one_dealing()
+    ensures { λ _. ⌜ OneDealing ⌝ }
 {}
