@@ -10,5 +10,6 @@ pub mod Playing
 pub mod Steps
 pub mod Sat
 pub mod Whole
+pub mod Tabled
 pub mod Bytes
 pub mod Reading

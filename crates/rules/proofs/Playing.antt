@@ -10,21 +10,8 @@ use borrow.Author.Tests.{ne-eqb, eq-eqb}
 use Rattle.algebra.specs.Sharing.{Share}
 use Rattle.rules.specs.Deal.{Honest}
 use Rattle.rules.specs.Rounds.{Setting, keepers, group, Letter, Post, Deal, Fine, Said, Hand, Posts, Lines, nothingHeard, nothingPosted, heard, posted, hand, board, mine, tellsTo, complaintsOf, answersOf, allFits, wordsBy, Follows, Quiet}
+use Rattle.rules.specs.Course.{left, by, spoken, quiet, mail1, hand1, mail2, hand2, board3, posts3, board4, board5, mails, boards, run}
 use Rattle.rules.specs.Promise.{CanFollow}
-
--- the words of liars
-left : {W : Type 0} → (ℕ → Bool) → List (Said W) → List (Said W)
-left lies [] = []
-left lies (m ∷ ms) = cond (lies (m .by)) (m ∷ left lies ms) (left lies ms)
-
-abbrev by : {W : Type 0} → ℕ → List W → List (Said W)
-by i [] = []
-by i (w ∷ ws) = record { by = i; word = w } ∷ by i ws
-
--- the words of honest keepers, and then those of liars
-pub spoken : {W : Type 0} → (ℕ → Bool) → ℕ → (ℕ → List W) → List (Said W) → List (Said W)
-spoken lies zero w said = left lies said
-spoken lies (suc n) w said = cond (lies n) [] (by n (w n)) ++ spoken lies n w said
 
 pub words-append : {W : Type 0} (i : ℕ) (l k : List (Said W)) → wordsBy i (l ++ k) ≡ wordsBy i l ++ wordsBy i k
 unfolding wordsBy
@@ -101,53 +88,6 @@ module _ (s : Setting) (lies : ℕ → Bool) (said : Lines) (shares : ℕ → Sh
   abbrev n : ℕ
   n = keepers s
 
-  -- where honest keepers say nothing
-  abbrev quiet : {W : Type 0} → List (Said W) → List (Said W)
-  quiet = spoken lies n (λ i. [])
-
-  -- round by round, what comes, and what is held and seen after it
-  abbrev mail1 : ℕ → List (Said Letter)
-  mail1 j = spoken lies n (λ i. cond (eqb i (s .dealer)) (Deal (shares j) ∷ []) []) (said .mail 1 j)
-
-  abbrev hand1 : ℕ → Hand
-  hand1 i = foldl (heard s 1) nothingHeard (mail1 i)
-
-  abbrev mail2 : ℕ → List (Said Letter)
-  mail2 j = spoken lies n (λ i. cond (eqb i j) [] (tellsTo s i (hand1 i) j ∷ [])) (said .mail 2 j)
-
-  abbrev hand2 : ℕ → Hand
-  hand2 i = foldl (heard s 2) (hand1 i) (mail2 i)
-
-  abbrev board3 : List (Said Post)
-  board3 = spoken lies n (λ i. complaintsOf s i (hand2 i)) (said .board 3)
-
-  abbrev posts3 : Posts
-  posts3 = foldl (posted s 3) (foldl (posted s 2) (foldl (posted s 1) nothingPosted (quiet (said .board 1))) (quiet (said .board 2))) board3
-
-  abbrev board4 : List (Said Post)
-  board4 = spoken lies n (λ i. cond (eqb i (s .dealer)) (answersOf s shares posts3) []) (said .board 4)
-
-  abbrev board5 : List (Said Post)
-  board5 = spoken lies n (λ i. Fine (allFits s i (mine s i (foldl (heard s 4) (foldl (heard s 3) (hand2 i) (quiet (said .mail 3 i))) (quiet (said .mail 4 i)))) (foldl (posted s 4) posts3 board4)) ∷ []) (said .board 5)
-
-  mails : ℕ → ℕ → List (Said Letter)
-  mails zero j = quiet (said .mail 0 j)
-  mails (suc zero) j = mail1 j
-  mails (suc (suc zero)) j = mail2 j
-  mails (suc (suc (suc r))) j = quiet (said .mail (suc (suc (suc r))) j)
-
-  boards : ℕ → List (Said Post)
-  boards zero = quiet (said .board 0)
-  boards (suc zero) = quiet (said .board 1)
-  boards (suc (suc zero)) = quiet (said .board 2)
-  boards (suc (suc (suc zero))) = board3
-  boards (suc (suc (suc (suc zero)))) = board4
-  boards (suc (suc (suc (suc (suc zero))))) = board5
-  boards (suc (suc (suc (suc (suc (suc r)))))) = quiet (said .board (suc (suc (suc (suc (suc (suc r)))))))
-
-  run : Lines
-  run = record { mail = mails; board = boards }
-
   honest : (i : ℕ) → Honest (group s lies) i → lies i ≡ false
   honest i h = go (lies i) (h .1)
     where
@@ -155,51 +95,51 @@ module _ (s : Setting) (lies : ℕ → Bool) (said : Lines) (shares : ℕ → Sh
       go true t = absurd (t tt)
       go false t = refl
 
-  quiet-mail : (r i j : ℕ) → Honest (group s lies) i → ((r ≡ 1) × (i ≡ s .dealer) → ⊥) → ((r ≡ 2) × (i ≡ j → ⊥) → ⊥) → wordsBy i (mails r j) ≡ []
+  quiet-mail : (r i j : ℕ) → Honest (group s lies) i → ((r ≡ 1) × (i ≡ s .dealer) → ⊥) → ((r ≡ 2) × (i ≡ j → ⊥) → ⊥) → wordsBy i ((mails s lies said shares) r j) ≡ []
   unfolding mails
   quiet-mail zero i j h a b = spoken-honest lies _ (said .mail 0 j) i n (honest i h) (h .0 .0)
   quiet-mail (suc zero) i j h a b = spoken-honest lies _ (said .mail 1 j) i n (honest i h) (h .0 .0) ∙ ap (λ c. cond c (Deal (shares j) ∷ []) []) (ne-eqb i (s .dealer) (λ e. a (refl, e)))
   quiet-mail (suc (suc zero)) i j h a b = spoken-honest lies _ (said .mail 2 j) i n (honest i h) (h .0 .0) ∙
-      elim (ℕ-discrete i j) [ yes e ↦ ap (λ c. cond c [] (tellsTo s i (hand1 i) j ∷ [])) (eq-eqb i j e) | no e ↦ absurd (b (refl, e)) ]
+      elim (ℕ-discrete i j) [ yes e ↦ ap (λ c. cond c [] (tellsTo s i ((hand1 s lies said shares) i) j ∷ [])) (eq-eqb i j e) | no e ↦ absurd (b (refl, e)) ]
   quiet-mail (suc (suc (suc r))) i j h a b = spoken-honest lies _ (said .mail (suc (suc (suc r))) j) i n (honest i h) (h .0 .0)
 
-  quiet-board : (r i : ℕ) → Honest (group s lies) i → (r ≡ 3 → ⊥) → ((r ≡ 4) × (i ≡ s .dealer) → ⊥) → (r ≡ 5 → ⊥) → wordsBy i (boards r) ≡ []
+  quiet-board : (r i : ℕ) → Honest (group s lies) i → (r ≡ 3 → ⊥) → ((r ≡ 4) × (i ≡ s .dealer) → ⊥) → (r ≡ 5 → ⊥) → wordsBy i ((boards s lies said shares) r) ≡ []
   unfolding boards
   quiet-board zero i h a b c = spoken-honest lies _ (said .board 0) i n (honest i h) (h .0 .0)
   quiet-board (suc zero) i h a b c = spoken-honest lies _ (said .board 1) i n (honest i h) (h .0 .0)
   quiet-board (suc (suc zero)) i h a b c = spoken-honest lies _ (said .board 2) i n (honest i h) (h .0 .0)
   quiet-board (suc (suc (suc zero))) i h a b c = absurd (a refl)
-  quiet-board (suc (suc (suc (suc zero)))) i h a b c = spoken-honest lies _ (said .board 4) i n (honest i h) (h .0 .0) ∙ ap (λ c. cond c (answersOf s shares posts3) []) (ne-eqb i (s .dealer) (λ e. b (refl, e)))
+  quiet-board (suc (suc (suc (suc zero)))) i h a b c = spoken-honest lies _ (said .board 4) i n (honest i h) (h .0 .0) ∙ ap (λ c. cond c (answersOf s shares (posts3 s lies said shares)) []) (ne-eqb i (s .dealer) (λ e. b (refl, e)))
   quiet-board (suc (suc (suc (suc (suc zero))))) i h a b c = absurd (c refl)
   quiet-board (suc (suc (suc (suc (suc (suc r)))))) i h a b c = spoken-honest lies _ (said .board (suc (suc (suc (suc (suc (suc r))))))) i n (honest i h) (h .0 .0)
 
-  follows : Follows s lies run (hand s run) (board s run)
+  follows : Follows s lies (run s lies said shares) (hand s (run s lies said shares)) (board s (run s lies said shares))
   unfolding run mails boards hand board
   follows = record {
-    tells = λ i j hi hj ne. spoken-honest lies _ (said .mail 2 j) i n (honest i hi) (hi .0 .0) ∙ ap (λ c. cond c [] (tellsTo s i (hand1 i) j ∷ [])) (ne-eqb i j ne);
+    tells = λ i j hi hj ne. spoken-honest lies _ (said .mail 2 j) i n (honest i hi) (hi .0 .0) ∙ ap (λ c. cond c [] (tellsTo s i ((hand1 s lies said shares) i) j ∷ [])) (ne-eqb i j ne);
     complains = λ i hi. spoken-honest lies _ (said .board 3) i n (honest i hi) (hi .0 .0);
     judges = λ i hi. spoken-honest lies _ (said .board 5) i n (honest i hi) (hi .0 .0);
   }
 
-  quietly : Quiet s lies run
+  quietly : Quiet s lies (run s lies said shares)
   unfolding run
   quietly = record { mail = quiet-mail; board = quiet-board }
 
-  dealer : Honest (group s lies) (s .dealer) → ((j : ℕ) → wordsBy (s .dealer) (run .mail 1 j) ≡ Deal (shares j) ∷ []) × (wordsBy (s .dealer) (run .board 4) ≡ answersOf s shares (board s run 3))
+  dealer : Honest (group s lies) (s .dealer) → ((j : ℕ) → wordsBy (s .dealer) ((run s lies said shares) .mail 1 j) ≡ Deal (shares j) ∷ []) × (wordsBy (s .dealer) ((run s lies said shares) .board 4) ≡ answersOf s shares (board s (run s lies said shares) 3))
   unfolding run mails boards board
   dealer h = (
     λ j. spoken-honest lies _ (said .mail 1 j) (s .dealer) n (honest (s .dealer) h) (h .0 .0) ∙ ap (λ b. cond b (Deal (shares j) ∷ []) []) (eq-eqb (s .dealer) (s .dealer) refl),
-    spoken-honest lies _ (said .board 4) (s .dealer) n (honest (s .dealer) h) (h .0 .0) ∙ ap (λ b. cond b (answersOf s shares posts3) []) (eq-eqb (s .dealer) (s .dealer) refl),
+    spoken-honest lies _ (said .board 4) (s .dealer) n (honest (s .dealer) h) (h .0 .0) ∙ ap (λ b. cond b (answersOf s shares (posts3 s lies said shares)) []) (eq-eqb (s .dealer) (s .dealer) refl),
   )
 
-  liar-mail : (r i : ℕ) → lies i ≡ true → (j : ℕ) → wordsBy i (mails r j) ≡ wordsBy i (said .mail r j)
+  liar-mail : (r i : ℕ) → lies i ≡ true → (j : ℕ) → wordsBy i ((mails s lies said shares) r j) ≡ wordsBy i (said .mail r j)
   unfolding mails
   liar-mail zero i l j = spoken-liar lies _ (said .mail 0 j) i n l
   liar-mail (suc zero) i l j = spoken-liar lies _ (said .mail 1 j) i n l
   liar-mail (suc (suc zero)) i l j = spoken-liar lies _ (said .mail 2 j) i n l
   liar-mail (suc (suc (suc r))) i l j = spoken-liar lies _ (said .mail (suc (suc (suc r))) j) i n l
 
-  liar-board : (r i : ℕ) → lies i ≡ true → wordsBy i (boards r) ≡ wordsBy i (said .board r)
+  liar-board : (r i : ℕ) → lies i ≡ true → wordsBy i ((boards s lies said shares) r) ≡ wordsBy i (said .board r)
   unfolding boards
   liar-board zero i l = spoken-liar lies _ (said .board 0) i n l
   liar-board (suc zero) i l = spoken-liar lies _ (said .board 1) i n l
@@ -211,4 +151,4 @@ module _ (s : Setting) (lies : ℕ → Bool) (said : Lines) (shares : ℕ → Sh
 
 pub can-follow : CanFollow
 unfolding run
-can-follow s lies said shares = (run s lies said shares, follows s lies said shares, quietly s lies said shares, dealer s lies said shares, λ r i l. (liar-mail s lies said shares r i l, liar-board s lies said shares r i l))
+can-follow s lies said shares = (follows s lies said shares, quietly s lies said shares, dealer s lies said shares, λ r i l. (liar-mail s lies said shares r i l, liar-board s lies said shares r i l))

@@ -5,16 +5,16 @@ use mathlib.Core.List.{List, [], _∷_, _++_, append-nil}
 use Prim.Native.Nat.{ℕ, _+_, _*_, _^_, _<_, _≤_}
 use native.Mathlib.Nat.{add-zero}
 use native.Mathlib.Omega.{arith}
-use lib.Dec.{eqb, ltb}
+use lib.Dec.{eqb}
 use lib.ListN.{length, getD, drop}
-use Rattle.std.specs.declared.option.Option.the-variants.{Some, None}
+use Rattle.std.specs.declared.option.Option.the-variants.{Some}
 use Rattle.std.specs.Orderings.{Decides}
 use Rattle.std.proofs.shelf.Lists.{drop-all, length-append}
 use Rattle.std.proofs.shelf.Ways.{decides-and, decides-ltb, decides-eqb, tells}
 use Rattle.algebra.specs.Prime.{p}
 use Rattle.algebra.specs.Sharing as sharing
 use Rattle.rules.specs.Message.{Message, Share, Told, Complaint, Reveal, Fine, Finished, Value}
-use Rattle.rules.specs.Wire.{be4, be8, row, head, flag, wire, Fit, InRange, number4, number8, rowAt, when, shareAt, pairFrom, smallShare, smallPair, byKind, parse, Bytes, ReadsWhatIsWritten}
+use Rattle.rules.specs.Wire.{be4, be8, row, head, flag, wire, Fit, InRange, number4, number8, rowAt, when, shareAt, pairFrom, smallShare, smallPair, readShare, readTold, readComplaint, readReveal, readFine, readFinished, readValue, byKind, parse, Bytes, ReadsWhatIsWritten}
 use Rattle.rules.proofs.Bytes.{be4-back, be8-back, next, next4, next8, next-row, number8-past, rowAt-past, row-back, length-be8, length-row, length-rowAt, decides-small}
 
 -- THE TESTS.
@@ -81,28 +81,68 @@ module _ (n high low : ℕ) (bs : List ℕ) (b : Bytes bs) (long : 6 ≤ length 
   abbrev Reads : Message → Type 0
   Reads m = (bs ≡ wire m) × InRange n high low m
 
-  by-kind : (kind : ℕ) (m : Message) → getD bs 0 0 ≡ kind → byKind n high low bs kind (number4 bs 1) (getD bs 5 0) ≡ Some m → Reads m
-  by-kind kind m is =
-      let front = next-head bs b long in
-      let night = night-fits bs b in
-      pick (decides-eqb kind 1) (λ k e. through Reads (both (decides-eqb (length bs) (6 + 8 * (high + low))) (share-test high low bs 6)) e
-      (λ t. let rest = next-share high low bs 6 b (t .0) in (cc, (night, dealt, t .1))))
-      (pick (decides-eqb kind 2) (λ k e. through Reads (both (decides-eqb (length bs) 22) (pair-test (pairFrom bs 6))) e
-      (λ t. let rest = next-pair bs 6 b (t .0) in (cc, (night, dealt, t .1 .0, t .1 .1))))
-      (pick (decides-eqb kind 3) (λ k e. through Reads (both (decides-eqb (length bs) 24) (both (decides-ltb (getD bs 6 0) n) (both (decides-ltb (getD bs 7 0) n) (pair-test (pairFrom bs 8))))) e
-      (λ t. let by = next bs 6 7 refl (omega (arith, t .0)) in let about = next bs 7 8 refl (omega (arith, t .0)) in let rest = next-pair bs 8 b (t .0) in
-      (cc, (night, dealt, t .1 .0, t .1 .1 .0, t .1 .1 .1 .0, t .1 .1 .1 .1))))
-      (pick (decides-eqb kind 4) (λ k e. through Reads (both (decides-eqb (length bs) (7 + 8 * (high + low))) (both (decides-ltb (getD bs 6 0) n) (share-test high low bs 7))) e
-      (λ t. let keeper = next bs 6 7 refl (omega (arith, t .0)) in let rest = next-share high low bs 7 b (t .0) in (cc, (night, dealt, t .1 .0, t .1 .1))))
-      (pick (decides-eqb kind 5) (λ k e. through Reads (both (decides-eqb (length bs) 8) (both (decides-ltb (getD bs 6 0) n) (decides-ltb (getD bs 7 0) 2))) e
-      (λ t. let keeper = next bs 6 7 refl (omega (arith, t .0)) in let word = next bs 7 8 refl (omega (arith, t .0)) in let rest = drop-all 8 bs (omega (arith, t .0)) in
-      let same = flag-of (getD bs 7 0) (t .1 .1) in (cc, (night, dealt, t .1 .0))))
-      (pick (decides-eqb kind 6) (λ k e. through Reads (both (decides-eqb (length bs) 7) (both (decides-eqb (getD bs 5 0) 0) (decides-ltb (getD bs 6 0) n))) e
-      (λ t. let keeper = next bs 6 7 refl (omega (arith, t .0)) in let rest = drop-all 7 bs (omega (arith, t .0)) in (cc, (night, dealt, t .1 .0, t .1 .1))))
-      (pick (decides-eqb kind 7) (λ k e. through Reads (both (decides-eqb (length bs) 15) (both (decides-eqb (getD bs 5 0) 0) (both (decides-ltb (getD bs 6 0) n) (decides-ltb (number8 bs 7) p)))) e
-      (λ t. let keeper = next bs 6 7 refl (omega (arith, t .0)) in let v = next8 bs 7 b (omega (arith, t .0)) in let rest = drop-all 15 bs (omega (arith, t .0)) in
-      let last = append-nil (be8 (number8 bs 7)) in (cc, (night, dealt, t .1 .0, t .1 .1 .0, t .1 .1 .1))))
-      (λ e. absurd (grind arith))))))))
+  abbrev night : ℕ
+  night = number4 bs 1
+
+  abbrev dealer : ℕ
+  dealer = getD bs 5 0
+
+  front : (kind : ℕ) → getD bs 0 0 ≡ kind → bs ≡ head kind night dealer ++ drop 6 bs
+  front kind k = next-head bs b long ∙ ap (λ x. head x night dealer ++ drop 6 bs) k
+
+  as-share : (m : Message) → getD bs 0 0 ≡ 1 → readShare high low bs night dealer ≡ Some m → Reads m
+  as-share m k e =
+      through Reads (both (decides-eqb (length bs) (6 + 8 * (high + low))) (share-test high low bs 6)) e
+      (λ t. let rest = next-share high low bs 6 b (t .0) in (cc (front 1 k), (night-fits bs b, dealt, t .1)))
+
+  as-told : (m : Message) → getD bs 0 0 ≡ 2 → readTold bs night dealer ≡ Some m → Reads m
+  as-told m k e =
+      through Reads (both (decides-eqb (length bs) 22) (pair-test (pairFrom bs 6))) e
+      (λ t. let rest = next-pair bs 6 b (t .0) in (cc (front 2 k), (night-fits bs b, dealt, t .1 .0, t .1 .1)))
+
+  as-complaint : (m : Message) → getD bs 0 0 ≡ 3 → readComplaint n bs night dealer ≡ Some m → Reads m
+  as-complaint m k e =
+      through Reads (both (decides-eqb (length bs) 24) (both (decides-ltb (getD bs 6 0) n) (both (decides-ltb (getD bs 7 0) n) (pair-test (pairFrom bs 8))))) e
+      (λ t. let by = next bs 6 7 refl (omega (arith, t .0)) in
+      let about = next bs 7 8 refl (omega (arith, t .0)) in
+      let rest = next-pair bs 8 b (t .0) in
+      (cc (front 3 k), (night-fits bs b, dealt, t .1 .0, t .1 .1 .0, t .1 .1 .1 .0, t .1 .1 .1 .1)))
+
+  as-reveal : (m : Message) → getD bs 0 0 ≡ 4 → readReveal n high low bs night dealer ≡ Some m → Reads m
+  as-reveal m k e =
+      through Reads (both (decides-eqb (length bs) (7 + 8 * (high + low))) (both (decides-ltb (getD bs 6 0) n) (share-test high low bs 7))) e
+      (λ t. let keeper = next bs 6 7 refl (omega (arith, t .0)) in
+      let rest = next-share high low bs 7 b (t .0) in
+      (cc (front 4 k), (night-fits bs b, dealt, t .1 .0, t .1 .1)))
+
+  as-fine : (m : Message) → getD bs 0 0 ≡ 5 → readFine n bs night dealer ≡ Some m → Reads m
+  as-fine m k e =
+      through Reads (both (decides-eqb (length bs) 8) (both (decides-ltb (getD bs 6 0) n) (decides-ltb (getD bs 7 0) 2))) e
+      (λ t. let keeper = next bs 6 7 refl (omega (arith, t .0)) in
+      let word = next bs 7 8 refl (omega (arith, t .0)) in
+      let rest = drop-all 8 bs (omega (arith, t .0)) in
+      (cc (front 5 k, flag-of (getD bs 7 0) (t .1 .1)), (night-fits bs b, dealt, t .1 .0)))
+
+  as-finished : (m : Message) → getD bs 0 0 ≡ 6 → readFinished n bs night dealer ≡ Some m → Reads m
+  as-finished m k e =
+      through Reads (both (decides-eqb (length bs) 7) (both (decides-eqb dealer 0) (decides-ltb (getD bs 6 0) n))) e
+      (λ t. let keeper = next bs 6 7 refl (omega (arith, t .0)) in
+      let rest = drop-all 7 bs (omega (arith, t .0)) in
+      (cc (front 6 k), (night-fits bs b, dealt, t .1 .0, t .1 .1)))
+
+  as-value : (m : Message) → getD bs 0 0 ≡ 7 → readValue n bs night dealer ≡ Some m → Reads m
+  as-value m k e =
+      through Reads (both (decides-eqb (length bs) 15) (both (decides-eqb dealer 0) (both (decides-ltb (getD bs 6 0) n) (decides-ltb (number8 bs 7) p)))) e
+      (λ t. let keeper = next bs 6 7 refl (omega (arith, t .0)) in
+      let value = next8 bs 7 b (omega (arith, t .0)) in
+      let rest = drop-all 15 bs (omega (arith, t .0)) in
+      (cc (front 7 k, append-nil (be8 (number8 bs 7))), (night-fits bs b, dealt, t .1 .0, t .1 .1 .0, t .1 .1 .1)))
+
+  by-kind : (m : Message) → byKind n high low bs (getD bs 0 0) night dealer ≡ Some m → Reads m
+  by-kind m =
+      pick (decides-eqb (getD bs 0 0) 1) (as-share m) (pick (decides-eqb (getD bs 0 0) 2) (as-told m) (pick (decides-eqb (getD bs 0 0) 3) (as-complaint m)
+      (pick (decides-eqb (getD bs 0 0) 4) (as-reveal m) (pick (decides-eqb (getD bs 0 0) 5) (as-fine m) (pick (decides-eqb (getD bs 0 0) 6) (as-finished m)
+      (pick (decides-eqb (getD bs 0 0) 7) (as-value m) (λ e. absurd (grind arith))))))))
 
 -- FROM A MESSAGE TO ITS BYTES.
 -- what stands behind a front of i bytes
@@ -189,7 +229,7 @@ parse-wire n high low h = wire-parses n high low
 pub wire-parse : (n high low : ℕ) (bs : List ℕ) → Bytes bs → (m : Message) → parse n high low bs ≡ Some m → (bs ≡ wire m) × InRange n high low m
 unfolding parse
 wire-parse n high low bs b m =
-    pick (both (decides-ltb 5 (length bs)) (decides-ltb (getD bs 5 0) n)) (λ t. by-kind n high low bs b (t .0) (t .1) (getD bs 0 0) m refl) (λ e. absurd (grind arith))
+    pick (both (decides-ltb 5 (length bs)) (decides-ltb (getD bs 5 0) n)) (λ t. by-kind n high low bs b (t .0) (t .1) m) (λ e. absurd (grind arith))
 
 pub reads-what-is-written : ReadsWhatIsWritten
 reads-what-is-written n high low h bs b m = (wire-parse n high low bs b m, λ w. ap (parse n high low) (w .0) ∙ parse-wire n high low h m (w .1))

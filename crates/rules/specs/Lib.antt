@@ -1,7 +1,9 @@
 pub mod Deal
 pub mod Rounds
+pub mod Course
 pub mod Message
 pub mod Wire
 pub mod Seat
 pub mod Play
+pub mod Cases
 pub mod Promise

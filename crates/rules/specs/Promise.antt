@@ -13,6 +13,7 @@ use Rattle.algebra.specs.Sharing.{point, Pair, Share, swap, pairAt, shareOf, Of
 use Rattle.std.specs.declared.option.Option.the-variants.{Some, None}
 use Rattle.rules.specs.Deal.{Group, Sound, Keeper, Honest, Dealing, Kept, Strict, Fair, SeenDeal, isAccepted, own}
 use Rattle.rules.specs.Play.{Sitting, Possible, Play, Plays, settingOf, after, Played, One, Passes}
+use Rattle.rules.specs.Course.{run}
 use Rattle.rules.specs.Rounds.{Setting, Lines, keepers, group, Follows, Quiet, Deals, Deal, readOff, wordsBy, answersOf, hand, board}
 
 -- MAIN. Whatever the dealer and the liars do: if a dealing is accepted, there is one polynomial, of the stated degrees, that the shares of all honest keepers are of.
@@ -67,11 +68,12 @@ DealsFairly =
     (s : Setting) (lies : ℕ → Bool) (lines : Lines) (rs : List (List ℕ)) → keepers s ≤ 16 → 1 ≤ s .p → 1 ≤ s .high → Deals s lies lines (board s lines) rs →
     Fair (group s lies) (s .high) (s .low) rs (readOff s (hand s lines 5) (board s lines 5))
 
--- And there are such messages, whatever the liars say: said is what would come from everybody, and of liars exactly that comes.
+-- And the rules can be kept, whatever the liars say: in the course of a dealing honest keepers say what the rules ask for and nothing else, an honest dealer deals these shares, and of liars exactly comes what they say.
 abbrev pub CanFollow : Type 0
 CanFollow =
     (s : Setting) (lies : ℕ → Bool) (said : Lines) (shares : ℕ → Share) →
-    (lines : Lines) × Follows s lies lines (hand s lines) (board s lines) × Quiet s lies lines ×
+    let lines = run s lies said shares in
+    Follows s lies lines (hand s lines) (board s lines) × Quiet s lies lines ×
     (Honest (group s lies) (s .dealer) → ((j : ℕ) → wordsBy (s .dealer) (lines .mail 1 j) ≡ Deal (shares j) ∷ []) × (wordsBy (s .dealer) (lines .board 4) ≡ answersOf s shares (board s lines 3))) ×
     ((r i : ℕ) → lies i ≡ true → ((j : ℕ) → wordsBy i (lines .mail r j) ≡ wordsBy i (said .mail r j)) × (wordsBy i (lines .board r) ≡ wordsBy i (said .board r)))
 

@@ -1,4 +1,5 @@
 // The rules of one dealing and what follows from them. Each function below stands for a theorem, which is its contract; it computes nothing.
+ghost use Rattle.rules.specs.Cases.{TableHolds};
 ghost use Rattle.rules.specs.Promise.{CanFollow, DealsFairly, FairPasses, FairShows, HidesDealing, HidesSecret, KeepsRules, Main, OneDealing, PlaysKeep};
 ghost use Rattle.rules.specs.Wire.{ReadsWhatIsWritten};
 
@@ -55,4 +56,9 @@ pub fn plays_keep()
 // With at most f liars: accepted, it is of one polynomial; and an honest dealer's is accepted.
 pub fn one_dealing()
     ensures { λ _. ⌜ OneDealing ⌝ }
+{}
+
+// The worked cases come out as they should.
+pub fn table_holds()
+    ensures { λ _. ⌜ TableHolds ⌝ }
 {}
