@@ -1,5 +1,6 @@
 -- The program's messages as the rules speak of them.
 use mathlib.Core.Path.{_≡_}
+use mathlib.Core.Bool.{Bool, true, false}
 use Rattle.std.specs.Options.{Cases}
 use Rattle.std.specs.declared.option.Option.{Option}
 use Rattle.std.specs.declared.option.Option.the-variants.{Some, None}
@@ -17,6 +18,10 @@ messageOf (Fine night dealer keeper b) = rules.Fine night dealer keeper b
 messageOf (Finished night dealer keeper) = rules.Finished night dealer keeper
 messageOf (Value night dealer keeper v) = rules.Value night dealer keeper (v .value)
 
--- what was read is what the rules read, nothing if nothing
+-- READING. What was read stands for x, if that passes a test, else nothing was read.
+abbrev pub Gives : {T X : Type 0} → (T → X) → Option T → (test : Bool) → X → Type 0
+Gives view r test x = Cases r (test ≡ false) (λ t. (view t ≡ x) × (test ≡ true))
+
+-- what was read is the message that the rules read, or nothing where they read none
 abbrev pub Reads : Option Message → Option rules.Message → Type 0
 Reads r o = Cases r (o ≡ None) (λ m. o ≡ Some (messageOf m))

@@ -1,13 +1,11 @@
 // From bytes to a message.
-ghost use mathlib.Core.Bool.{true, false};
 ghost use mathlib.Core.Path.{_≡_};
-ghost use Prim.Native.Nat.{ℕ, _+_, _*_, _<_, _≤_};
+ghost use Prim.Native.Nat.{_+_, _*_, _<_, _≤_};
 ghost use lib.ListN.{getD, length};
-ghost use Rattle.message.specs.Model.{Reads, messageOf};
+ghost use Rattle.message.specs.Model.{Gives, Reads, messageOf};
 ghost use Rattle.polynomial.specs.Lists.{coeffs, held, said};
 ghost use Rattle.rules.specs.Message as rules;
 ghost use Rattle.rules.specs.Wire.{InRange, byKind, number4, number8, pairFrom, parse, readComplaint, readFine, readFinished, readReveal, readShare, readTold, readValue, rowAt, shareAt, small, smallPair, smallShare, wire};
-ghost use Rattle.std.specs.Options.{Cases as BySome};
 ghost use Rattle.std.specs.Results.{Cases};
 ghost use Rattle.std.specs.declared.option.Option.the-variants.{None, Some};
 use crate::types::Malformed;
@@ -49,10 +47,10 @@ fn eight(bytes: &[u8], place: usize) -> u64
     ])
 }
 
-// So many numbers, one after the other, each below P.
+// A row of so many numbers, if each is below P.
 fn row_at(bytes: &[u8], place: usize, count: usize) -> Option<Polynomial>
     requires { ⌜ place + 8 * count ≤ length (now bytes) ⌝ ∗ ⌜ count ≤ 6 ⌝ }
-    ensures { λ r. ⌜ BySome r (small (rowAt (now (bytes .entry)) place count) ≡ false) (λ f. (coeffs f ≡ rowAt (now (bytes .entry)) place count) × (small (rowAt (now (bytes .entry)) place count) ≡ true)) ⌝ }
+    ensures { λ r. ⌜ Gives coeffs r (small (rowAt (now (bytes .entry)) place count)) (rowAt (now (bytes .entry)) place count) ⌝ }
 {
     let mut numbers = [Element::zero(); 6];
     for k in 0..count {
@@ -61,20 +59,20 @@ fn row_at(bytes: &[u8], place: usize, count: usize) -> Option<Polynomial>
     Polynomial::from_slice(&numbers[0..count])
 }
 
-// A share: across and then down.
+// A share, across and then down, if its numbers are below P.
 fn share_at(bytes: &[u8], place: usize, shape: Shape) -> Option<Share>
     requires { ⌜ place + 8 * (shape .high + shape .low) ≤ length (now bytes) ⌝ }
-    ensures { λ r. ⌜ BySome r (smallShare (shareAt (shape .high) (shape .low) (now (bytes .entry)) place) ≡ false) (λ x. (held x ≡ shareAt (shape .high) (shape .low) (now (bytes .entry)) place) × (smallShare (shareAt (shape .high) (shape .low) (now (bytes .entry)) place) ≡ true)) ⌝ }
+    ensures { λ r. ⌜ Gives held r (smallShare (shareAt (shape .high) (shape .low) (now (bytes .entry)) place)) (shareAt (shape .high) (shape .low) (now (bytes .entry)) place) ⌝ }
 {
     let across = row_at(bytes, place, shape.high())?;
     let down = row_at(bytes, place + 8 * shape.high(), shape.low())?;
     Some(Share { across, down })
 }
 
-// A pair of numbers below P.
+// A pair, if its numbers are below P.
 fn pair_at(bytes: &[u8], place: usize) -> Option<Pair>
     requires { ⌜ place + 16 ≤ length (now bytes) ⌝ }
-    ensures { λ r. ⌜ BySome r (smallPair (pairFrom (now (bytes .entry)) place) ≡ false) (λ a. (said a ≡ pairFrom (now (bytes .entry)) place) × (smallPair (pairFrom (now (bytes .entry)) place) ≡ true)) ⌝ }
+    ensures { λ r. ⌜ Gives said r (smallPair (pairFrom (now (bytes .entry)) place)) (pairFrom (now (bytes .entry)) place) ⌝ }
 {
     let across = eight(bytes, place);
     let down = eight(bytes, place + 8);
@@ -84,6 +82,7 @@ fn pair_at(bytes: &[u8], place: usize) -> Option<Pair>
     Some(Pair { across, down })
 }
 
+// Each kind of message.
 fn read_share(bytes: &[u8], night: u32, dealer: u8, shape: Shape) -> Option<Message>
     ensures { λ r. ⌜ Reads r (readShare (shape .high) (shape .low) (now (bytes .entry)) night dealer) ⌝ }
 {
@@ -204,7 +203,7 @@ fn by_kind(bytes: &[u8], keepers: u8, shape: Shape) -> Option<Message>
     }
 }
 
-// Reads a message among so many keepers, with shares of this shape: the one message in range that has these bytes, and it refuses only what are no such message's bytes.
+// Reads a message among so many keepers, with shares of this shape. It is the message in range that has these bytes; what no such message has is refused.
 pub fn read(bytes: &[u8], keepers: u8, shape: Shape) -> Result<Message, Malformed>
     ensures parses { λ r. ⌜ Cases r (λ m. parse keepers (shape .high) (shape .low) (now (bytes .entry)) ≡ Some (messageOf m)) (λ _. parse keepers (shape .high) (shape .low) (now (bytes .entry)) ≡ None) ⌝ }
     ensures written { λ r. ⌜ Cases r (λ m. (now (bytes .entry) ≡ wire (messageOf m)) × InRange keepers (shape .high) (shape .low) (messageOf m)) (λ _. (m : rules.Message) → InRange keepers (shape .high) (shape .low) m → now (bytes .entry) ≡ wire m → ⊥) ⌝ }

@@ -23,32 +23,8 @@ fn complaint(rt: LibcRuntime) -> Result<(), Fail> {
         pair,
     };
     let bytes = write(rt.alloc(), &said)?;
-    let wanted = [
-        3,
-        10,
-        11,
-        12,
-        13,
-        2,
-        1,
-        3,
-        1,
-        2,
-        3,
-        4,
-        5,
-        6,
-        7,
-        8,
-        0,
-        0,
-        0,
-        0,
-        0,
-        0,
-        0,
-        5,
-    ];
+    let wanted =
+        b"\x03\x0a\x0b\x0c\x0d\x02\x01\x03\x01\x02\x03\x04\x05\x06\x07\x08\0\0\0\0\0\0\0\x05";
     check(bytes.as_slice() == wanted.as_slice())?;
     check(read(bytes.as_slice(), 3, shape).is_err()).note("keeper 3 is not among three")?;
     let Ok(back) = read(bytes.as_slice(), 4, shape) else {

@@ -2,7 +2,7 @@
 ghost use mathlib.Core.List.{_++_};
 ghost use mathlib.Core.Path.{_≡_};
 ghost use Rattle.message.specs.Model.{messageOf};
-ghost use Rattle.polynomial.specs.Lists.{coeffs, held, said};
+ghost use Rattle.polynomial.specs.Lists.{coeffs};
 ghost use Rattle.polynomial.specs.Numbers.{numbers};
 ghost use Rattle.rules.specs.Wire.{be4, be8, head, row, wire};
 ghost use Rattle.std.specs.Of.Vec.{vec-items};

@@ -1,0 +1,3 @@
+mod Parts
+mod Reading
+mod Tables
