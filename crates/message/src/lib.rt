@@ -7,6 +7,3 @@ pub use reading::read;
 pub use types::Malformed;
 pub use types::Message;
 pub use writing::write;
-
-#[cfg(test)]
-mod tests;

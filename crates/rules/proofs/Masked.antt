@@ -39,18 +39,22 @@ module _ (g : Group) (sound : Sound g) (spied : List ℕ) (few : length spied �
   none δ x y s = value2-is (g .p) (times2 (g .p) δ Z) x y ∙ rest s ∙ zero-mod (g .p)
 
   unseen : (δ s : ℕ) → List·Memᴰ s spied → (z : ℕ) → (value2 (g .p) (times2 (g .p) δ Z) z (point s) ≡ 0) × (value2 (g .p) (times2 (g .p) δ Z) (point s) z ≡ 0)
-  unseen δ s m z =
-      (none δ z (point s) (so (at δ z (point s) ⊞ (δ * eval (C .cs) z) ⊠ C .there s m) (omega arith)),
-      none δ (point s) z (so (at δ (point s) z ⊞ (δ * eval (C .cs) z) ⊠ C .there s m) (omega arith)))
+  unseen δ s m z = (
+    none δ z (point s) (so (at δ z (point s) ⊞ (δ * eval (C .cs) z) ⊠ C .there s m) (omega arith)),
+    none δ (point s) z (so (at δ (point s) z ⊞ (δ * eval (C .cs) z) ⊠ C .there s m) (omega arith)),
+  )
 
   moved : (δ : ℕ) (rs : List (List ℕ)) → value2 (g .p) (plus2 (g .p) rs (times2 (g .p) δ Z)) 0 0 ≡ (value2 (g .p) rs 0 0 + δ) % g .p
   moved δ rs = value2-is (g .p) (plus2 (g .p) rs (times2 (g .p) δ Z)) 0 0 ∙
       rest (so (plus2-is (g .p) rs (times2 (g .p) δ Z) 0 0 ⊟ back (g .p) (value2-is (g .p) rs 0 0) ⊞ at δ 0 0 ⊞ (δ * eval (C .cs) 0) ⊠ C .here ⊞ δ ⊠ C .here) (omega arith))
 
 pub hides-secret : HidesSecret
-hides-secret g sound spied few inside liars =
-    (Z g sound spied few inside, low g sound spied few inside,
-    λ rs d kept strict fair δ.
-      (moved g sound spied few inside δ rs,
-      hidesDealing g sound (g .f + 1) (g .f + 1) (omega arith) (omega arith) (omega arith) rs d kept strict fair spied inside liars (times2 (g .p) δ (Z g sound spied few inside))
-      (low-times2 (g .p) δ (g .f + 1) (g .f + 1) (Z g sound spied few inside) (low g sound spied few inside)) (unseen g sound spied few inside δ)))
+hides-secret g sound spied few inside liars = (
+  Z g sound spied few inside,
+  low g sound spied few inside,
+  λ rs d kept strict fair δ. (
+    moved g sound spied few inside δ rs,
+    hidesDealing g sound (g .f + 1) (g .f + 1) (omega arith) (omega arith) (omega arith) rs d kept strict fair spied inside liars (times2 (g .p) δ (Z g sound spied few inside))
+        (low-times2 (g .p) δ (g .f + 1) (g .f + 1) (Z g sound spied few inside) (low g sound spied few inside)) (unseen g sound spied few inside δ),
+  ),
+)

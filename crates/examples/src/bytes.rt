@@ -1,7 +1,7 @@
 // Bytes worked out by hand.
-use crate::Message;
-use crate::read;
-use crate::write;
+use message::Message;
+use message::read;
+use message::write;
 use polynomial::Pair;
 use polynomial::Shape;
 use std::test::*;
