@@ -1,0 +1,3 @@
+pub mod Run
+pub mod Nights
+pub mod Promise
