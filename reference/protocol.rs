@@ -1,8 +1,9 @@
 //! One dealing: seats with what they hold for themselves, the board, and the
 //! six rounds.
 
-use std::collections::btree_map::{BTreeMap, Entry};
+use std::collections::btree_map::{BTreeMap, Entry, VacantEntry};
 
+use crate::field::Element;
 use crate::share::{Keeper, Pair, Rows, Share};
 use crate::wire::{Body, Line, Mail, Message, Shape};
 
@@ -91,11 +92,20 @@ impl Terms {
     }
 
     fn shape(&self) -> Shape {
-        Shape { keepers: self.keepers(), high: self.high, low: self.low }
+        Shape {
+            keepers: self.keepers(),
+            high: self.high,
+            low: self.low,
+        }
     }
 
     fn message(&self, body: Body) -> Vec<u8> {
-        Message { night: self.night, dealer: self.dealer, body }.encode()
+        Message {
+            night: self.night,
+            dealer: self.dealer,
+            body,
+        }
+        .encode()
     }
 
     fn mail(&self, mail: Mail) -> Vec<u8> {
@@ -130,7 +140,13 @@ pub struct Board {
 }
 
 impl Board {
-    fn take(&mut self, terms: &Terms, round: Round, from: Keeper, bytes: &[u8]) -> Result<(), Refusal> {
+    fn take(
+        &mut self,
+        terms: &Terms,
+        round: Round,
+        from: Keeper,
+        bytes: &[u8],
+    ) -> Result<(), Refusal> {
         let message = terms.read(from, bytes)?;
         Refusal::NotAMessage.when(matches!(message.body, Body::Mail(_)))?;
         terms.check(&message, round)?;
@@ -181,7 +197,7 @@ impl Board {
 }
 
 /// The place of something that wasn't said yet.
-fn vacant<K: Ord, V>(entry: Entry<K, V>) -> Result<std::collections::btree_map::VacantEntry<K, V>, Refusal> {
+fn vacant<K: Ord, V>(entry: Entry<K, V>) -> Result<VacantEntry<K, V>, Refusal> {
     match entry {
         Entry::Vacant(place) => Ok(place),
         Entry::Occupied(_) => Err(Refusal::NotTheirs),
@@ -205,7 +221,7 @@ struct Seat {
     share: Option<Share>,
     told: BTreeMap<Keeper, Pair>,
     words: Words,
-    kept: Option<crate::field::Element>,
+    kept: Option<Element>,
 }
 
 impl Seat {
@@ -220,7 +236,13 @@ impl Seat {
         }
     }
 
-    fn take(&mut self, terms: &Terms, round: Round, from: Keeper, bytes: &[u8]) -> Result<(), Refusal> {
+    fn take(
+        &mut self,
+        terms: &Terms,
+        round: Round,
+        from: Keeper,
+        bytes: &[u8],
+    ) -> Result<(), Refusal> {
         let message = terms.read(from, bytes)?;
         Refusal::NotAMessage.when(matches!(message.body, Body::Line(_)))?;
         terms.check(&message, round)?;
@@ -266,7 +288,10 @@ impl Seat {
             Round::Reveal => self.words.lines = self.reveal(terms, board),
             Round::Judge => {
                 let fine = self.is_fine(terms, board);
-                self.words.lines = vec![terms.line(Line::Fine { keeper: self.keeper, fine })];
+                self.words.lines = vec![terms.line(Line::Fine {
+                    keeper: self.keeper,
+                    fine,
+                })];
             }
             Round::Decided => self.decide(terms, board),
         }
@@ -339,7 +364,7 @@ impl Seat {
 /// What a keeper has at some time of a dealing.
 pub enum Holding {
     Share(Share),
-    Kept(Option<crate::field::Element>),
+    Kept(Option<Element>),
 }
 
 /// A dealing, with all its seats.
@@ -354,11 +379,23 @@ pub struct Dealing {
 
 impl Dealing {
     pub fn new(f: u8, night: u32, dealer: Keeper, rows: Rows) -> Dealing {
-        let terms = Terms { f, night, dealer, high: rows.high(), low: rows.low() };
+        let terms = Terms {
+            f,
+            night,
+            dealer,
+            high: rows.high(),
+            low: rows.low(),
+        };
         let seats = (0..terms.keepers())
             .map(|keeper| Seat::new(keeper, (keeper == dealer).then(|| rows.clone())))
             .collect();
-        Dealing { terms, rows, round: Round::Before, seats, board: Board::default() }
+        Dealing {
+            terms,
+            rows,
+            round: Round::Before,
+            seats,
+            board: Board::default(),
+        }
     }
 
     pub fn terms(&self) -> &Terms {
@@ -387,7 +424,9 @@ impl Dealing {
 
     /// What a keeper's seat says in this round.
     pub fn words(&self, keeper: Keeper) -> Words {
-        self.seat(keeper).map(|seat| seat.words.clone()).unwrap_or_default()
+        self.seat(keeper)
+            .map(|seat| seat.words.clone())
+            .unwrap_or_default()
     }
 
     pub fn send(&mut self, from: Keeper, to: Keeper, bytes: &[u8]) -> Result<(), Refusal> {

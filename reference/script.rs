@@ -11,12 +11,27 @@ use crate::wire::{Body, Line as BoardLine, Mail, Message};
 pub enum Line {
     F(u8),
     Liar(Vec<Number>),
-    Deal { dealer: Number, rows: Rows },
+    Deal {
+        dealer: Number,
+        rows: Rows,
+    },
     Round,
-    Say { from: Number, to: Number },
-    Post { from: Number },
-    Send { from: Number, to: Number, message: Draft },
-    Board { from: Number, message: Draft },
+    Say {
+        from: Number,
+        to: Number,
+    },
+    Post {
+        from: Number,
+    },
+    Send {
+        from: Number,
+        to: Number,
+        message: Draft,
+    },
+    Board {
+        from: Number,
+        message: Draft,
+    },
     Show,
 }
 
@@ -27,16 +42,29 @@ pub type Number = u128;
 #[derive(Clone, Debug)]
 pub enum Draft {
     Bytes(Vec<u8>),
-    Words { night: u32, dealer: Option<u8>, body: Body<u64> },
+    Words {
+        night: u32,
+        dealer: Option<u8>,
+        body: Body<u64>,
+    },
 }
 
 impl Draft {
     pub fn bytes(self, dealer_of_dealing: u8) -> Vec<u8> {
         match self {
             Draft::Bytes(bytes) => bytes,
-            Draft::Words { night, dealer, body } => {
+            Draft::Words {
+                night,
+                dealer,
+                body,
+            } => {
                 let dealer = dealer.unwrap_or(dealer_of_dealing);
-                Message { night, dealer, body }.encode()
+                Message {
+                    night,
+                    dealer,
+                    body,
+                }
+                .encode()
             }
         }
     }
@@ -119,16 +147,27 @@ pub fn parse(line: &[u8]) -> Parsed<Option<Line>> {
     let line = match first {
         "f" => Line::F(words.faults()?),
         "liar" => Line::Liar(words.keepers()?),
-        "deal" => Line::Deal { dealer: words.dealer()?, rows: words.rows()? },
+        "deal" => Line::Deal {
+            dealer: words.dealer()?,
+            rows: words.rows()?,
+        },
         "round" => Line::Round,
-        "say" => Line::Say { from: words.keeper()?, to: words.keeper()? },
-        "post" => Line::Post { from: words.keeper()? },
+        "say" => Line::Say {
+            from: words.keeper()?,
+            to: words.keeper()?,
+        },
+        "post" => Line::Post {
+            from: words.keeper()?,
+        },
         "send" => Line::Send {
             from: words.keeper()?,
             to: words.keeper()?,
             message: words.message()?,
         },
-        "board" => Line::Board { from: words.keeper()?, message: words.message()? },
+        "board" => Line::Board {
+            from: words.keeper()?,
+            message: words.message()?,
+        },
         "show" => Line::Show,
         _ => return Err(Expected::FirstWord),
     };
@@ -148,7 +187,9 @@ struct Words<'a> {
 
 impl<'a> Words<'a> {
     fn new(text: &'a str) -> Words<'a> {
-        Words { rest: text.trim_start_matches(is_blank) }
+        Words {
+            rest: text.trim_start_matches(is_blank),
+        }
     }
 
     fn next(&mut self) -> Option<&'a str> {
@@ -257,7 +298,9 @@ impl<'a> Words<'a> {
                 keeper: self.fitting()?,
                 fine: self.yes_or_no()?,
             }),
-            "finished" => Body::Line(BoardLine::Finished { keeper: self.fitting()? }),
+            "finished" => Body::Line(BoardLine::Finished {
+                keeper: self.fitting()?,
+            }),
             "value" => Body::Mail(Mail::Value {
                 keeper: self.fitting()?,
                 value: self.fitting()?,
@@ -265,7 +308,11 @@ impl<'a> Words<'a> {
             "hex" if bare => return self.hex().map(Draft::Bytes),
             _ => return Err(Expected::Message),
         };
-        Ok(Draft::Words { night: night.unwrap_or(0), dealer, body })
+        Ok(Draft::Words {
+            night: night.unwrap_or(0),
+            dealer,
+            body,
+        })
     }
 
     /// `night N` or `dealer D`, if it comes next.
@@ -283,7 +330,10 @@ impl<'a> Words<'a> {
     }
 
     fn pair(&mut self) -> Parsed<Pair<u64>> {
-        Ok(Pair { across: self.fitting()?, down: self.fitting()? })
+        Ok(Pair {
+            across: self.fitting()?,
+            down: self.fitting()?,
+        })
     }
 
     /// Numbers, a slash, numbers, to the end of the line.
@@ -335,7 +385,9 @@ fn digits(word: &str) -> Parsed<Number> {
         return Err(Expected::Digits);
     }
     Ok(word.bytes().fold(0, |number: Number, byte| {
-        number.saturating_mul(10).saturating_add(Number::from(byte - b'0'))
+        number
+            .saturating_mul(10)
+            .saturating_add(Number::from(byte - b'0'))
     }))
 }
 
@@ -353,7 +405,11 @@ fn coefficient(word: &str) -> Parsed<Element> {
 fn bytes_of_hex(word: &str) -> Option<Vec<u8>> {
     let digits: Option<Vec<u8>> = word
         .chars()
-        .map(|digit| digit.to_digit(16).and_then(|digit| u8::try_from(digit).ok()))
+        .map(|digit| {
+            digit
+                .to_digit(16)
+                .and_then(|digit| u8::try_from(digit).ok())
+        })
         .collect();
     let pairs = digits?;
     let pairs = pairs.chunks(2).map(|pair| match pair {

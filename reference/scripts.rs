@@ -48,7 +48,7 @@ fn script(seed: u64, broken: bool) -> Vec<u8> {
         .map(String::into_bytes)
         .collect();
     if broken {
-        mangle::mangle(&mut random, &mut lines);
+        lines = mangle::mangle(&mut random, lines);
     }
     let mut text = lines.join(&b'\n');
     if random.chance(90) {

@@ -35,7 +35,11 @@ impl Stage {
 
     fn play(&mut self, line: Line) -> Result<String, Expected> {
         if let Line::F(f) = line {
-            self.table = Some(Table { f, liars: BTreeSet::new(), dealing: None });
+            self.table = Some(Table {
+                f,
+                liars: BTreeSet::new(),
+                dealing: None,
+            });
             return Ok(String::new());
         }
         self.table.as_mut().ok_or(Expected::FBefore)?.play(line)
@@ -73,7 +77,10 @@ impl Table {
     }
 
     fn must_lie(&self, keeper: Keeper) -> Result<(), Expected> {
-        self.liars.contains(&keeper).then_some(()).ok_or(Expected::Liar)
+        self.liars
+            .contains(&keeper)
+            .then_some(())
+            .ok_or(Expected::Liar)
     }
 
     fn lie(&mut self, keepers: &[Number]) -> Result<String, Expected> {
@@ -177,7 +184,11 @@ impl Table {
     fn show_dealing(&self, dealing: &Dealing, lines: &mut Vec<String>) {
         let rows: Vec<String> = dealing.rows().iter().map(list).collect();
         let round = dealing.round();
-        lines.push(format!("dealer {} dealt {}", dealing.terms().dealer, rows.join(" / ")));
+        lines.push(format!(
+            "dealer {} dealt {}",
+            dealing.terms().dealer,
+            rows.join(" / ")
+        ));
         lines.push(format!("round {}", round.number()));
         for keeper in 0..=self.last() {
             let what = if self.liars.contains(&keeper) {
@@ -190,8 +201,16 @@ impl Table {
         show_board(dealing.board(), lines);
         if round >= Round::Judge {
             let board = dealing.board();
-            let verdict = if board.accepts(self.f) { "accepted" } else { "not accepted" };
-            lines.push(format!("{} of {} are fine: {verdict}", board.fine(), dealing.terms().keepers()));
+            let verdict = if board.accepts(self.f) {
+                "accepted"
+            } else {
+                "not accepted"
+            };
+            lines.push(format!(
+                "{} of {} are fine: {verdict}",
+                board.fine(),
+                dealing.terms().keepers()
+            ));
         }
     }
 }
@@ -205,7 +224,10 @@ fn answer(out: &mut String, taken: Result<(), Refusal>) {
 
 fn show_board(board: &Board, lines: &mut Vec<String>) {
     lines.extend(board.complaints.iter().map(|((by, about), pair)| {
-        format!("complaint {by} about {about}: across {}, down {}", pair.across, pair.down)
+        format!(
+            "complaint {by} about {about}: across {}, down {}",
+            pair.across, pair.down
+        )
     }));
     lines.extend(
         board

@@ -29,10 +29,22 @@ pub enum Mail<N = Element> {
 /// What goes on the board.
 #[derive(Clone, Debug)]
 pub enum Line<N = Element> {
-    Complaint { by: Keeper, about: Keeper, pair: Pair<N> },
-    Reveal { keeper: Keeper, share: Share<N> },
-    Fine { keeper: Keeper, fine: bool },
-    Finished { keeper: Keeper },
+    Complaint {
+        by: Keeper,
+        about: Keeper,
+        pair: Pair<N>,
+    },
+    Reveal {
+        keeper: Keeper,
+        share: Share<N>,
+    },
+    Fine {
+        keeper: Keeper,
+        fine: bool,
+    },
+    Finished {
+        keeper: Keeper,
+    },
 }
 
 /// What a reader has to know: how many keepers there are, and how many
@@ -118,7 +130,11 @@ impl Message {
         let dealer = reader.keeper()?;
         let body = reader.body(kind)?;
         let ended = reader.rest.is_empty();
-        (ended && (body.has_dealer() || dealer == 0)).then_some(Message { night, dealer, body })
+        (ended && (body.has_dealer() || dealer == 0)).then_some(Message {
+            night,
+            dealer,
+            body,
+        })
     }
 }
 
@@ -151,12 +167,18 @@ impl Reader<'_> {
     }
 
     fn pair(&mut self) -> Option<Pair> {
-        Some(Pair { across: self.number()?, down: self.number()? })
+        Some(Pair {
+            across: self.number()?,
+            down: self.number()?,
+        })
     }
 
     fn share(&mut self) -> Option<Share> {
         let Shape { high, low, .. } = *self.shape;
-        Some(Share { across: self.numbers(high)?, down: self.numbers(low)? })
+        Some(Share {
+            across: self.numbers(high)?,
+            down: self.numbers(low)?,
+        })
     }
 
     fn fine(&mut self) -> Option<bool> {
@@ -176,10 +198,21 @@ impl Reader<'_> {
                 about: self.keeper()?,
                 pair: self.pair()?,
             }),
-            4 => Body::Line(Line::Reveal { keeper: self.keeper()?, share: self.share()? }),
-            5 => Body::Line(Line::Fine { keeper: self.keeper()?, fine: self.fine()? }),
-            6 => Body::Line(Line::Finished { keeper: self.keeper()? }),
-            7 => Body::Mail(Mail::Value { keeper: self.keeper()?, value: self.number()? }),
+            4 => Body::Line(Line::Reveal {
+                keeper: self.keeper()?,
+                share: self.share()?,
+            }),
+            5 => Body::Line(Line::Fine {
+                keeper: self.keeper()?,
+                fine: self.fine()?,
+            }),
+            6 => Body::Line(Line::Finished {
+                keeper: self.keeper()?,
+            }),
+            7 => Body::Mail(Mail::Value {
+                keeper: self.keeper()?,
+                value: self.number()?,
+            }),
             _ => return None,
         })
     }
@@ -189,13 +222,26 @@ impl Reader<'_> {
 mod tests {
     use super::*;
 
-    const TOLD: [u8; 22] = [2, 0, 0, 0, 0, 0, 0, 0, 0, 0, 0, 0, 0, 14, 0, 0, 0, 0, 0, 0, 0, 11];
-    const SHAPE: Shape = Shape { keepers: 4, high: 2, low: 2 };
+    const TOLD: [u8; 22] = [
+        2, 0, 0, 0, 0, 0, 0, 0, 0, 0, 0, 0, 0, 14, 0, 0, 0, 0, 0, 0, 0, 11,
+    ];
+    const SHAPE: Shape = Shape {
+        keepers: 4,
+        high: 2,
+        low: 2,
+    };
 
     #[test]
     fn the_example_of_the_protocol() {
-        let pair: Pair<u64> = Pair { across: 14, down: 11 };
-        let message = Message { night: 0, dealer: 0, body: Body::Mail(Mail::Told(pair)) };
+        let pair: Pair<u64> = Pair {
+            across: 14,
+            down: 11,
+        };
+        let message = Message {
+            night: 0,
+            dealer: 0,
+            body: Body::Mail(Mail::Told(pair)),
+        };
         assert_eq!(message.encode(), TOLD);
         let read = Message::decode(&TOLD, &SHAPE).expect("a message");
         assert_eq!(read.encode(), TOLD);
