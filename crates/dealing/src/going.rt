@@ -7,14 +7,17 @@ ghost use Rattle.std.specs.declared.option.Option.the-variants.{None};
 ghost use lib.ListN.{getD, length};
 ghost use mathlib.Core.List.{map};
 ghost use mathlib.Core.Path.{_≡_};
-
 use polynomial::Share;
 
 // What was revealed of keeper i's share.
 fn shown(revealed: &[Option<Share>], i: usize) -> Option<Share>
     ensures { λ r. ⌜ r ≡ getD (now (revealed .entry)) i None ⌝ }
 {
-    if i < revealed.len() { revealed[i] } else { None }
+    if i < revealed.len() {
+        revealed[i]
+    } else {
+        None
+    }
 }
 
 // Each keeper goes on with what was revealed of its share, if it was, else with what it has.

@@ -9,6 +9,7 @@ pub mod Keeping
 pub mod Playing
 pub mod Steps
 pub mod Sat
+pub mod Seated
 pub mod Whole
 pub mod Tabled
 pub mod Bytes

@@ -64,7 +64,7 @@ module _ {W : Type 0} (lies : ℕ → Bool) (w : ℕ → List W) (said : List (S
       go true h = refl
       go false h = words-other i n (w n) (h refl)
 
-  spoken-liar : (i n : ℕ) → lies i ≡ true → wordsBy i (spoken lies n w said) ≡ wordsBy i said
+  pub spoken-liar : (i n : ℕ) → lies i ≡ true → wordsBy i (spoken lies n w said) ≡ wordsBy i said
   unfolding spoken
   spoken-liar i zero l = left-liar lies i l said
   spoken-liar i (suc n) l = words-append i (cond (lies n) [] (by n (w n))) (spoken lies n w said) ∙ ap₂ _++_ (others n i (λ e. apart lies n i false e l)) (spoken-liar i n l)

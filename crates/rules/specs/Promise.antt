@@ -10,11 +10,12 @@ use Rattle.algebra.specs.Counting.{count}
 use Rattle.algebra.specs.Polynomial.{value2, Low2, Exact2, plus2, times2}
 use Rattle.rules.specs.Seat.{accepted}
 use Rattle.algebra.specs.Sharing.{point, Pair, Share, swap, pairAt, shareOf, Of}
+use Rattle.std.specs.declared.option.Option.{Option}
 use Rattle.std.specs.declared.option.Option.the-variants.{Some, None}
 use Rattle.rules.specs.Deal.{Group, Sound, Keeper, Honest, Dealing, Kept, Strict, Fair, SeenDeal, isAccepted, own}
-use Rattle.rules.specs.Play.{Sitting, Possible, Play, Plays, settingOf, after, Played, One, Passes}
+use Rattle.rules.specs.Play.{Sitting, Possible, Play, Plays, mailOf, settingOf, after, Played, One, Passes}
 use Rattle.rules.specs.Course.{run}
-use Rattle.rules.specs.Rounds.{Setting, Lines, keepers, group, Follows, Quiet, Deals, Deal, readOff, wordsBy, answersOf, hand, board}
+use Rattle.rules.specs.Rounds.{Setting, Said, Lines, keepers, group, Follows, Quiet, Deals, Deal, readOff, wordsBy, answersOf, hand, board}
 
 -- MAIN. Whatever the dealer and the liars do: if a dealing is accepted, there is one polynomial, of the stated degrees, that the shares of all honest keepers are of.
 abbrev pub Main : Type 0
@@ -87,3 +88,10 @@ OneDealing =
     (k : Sitting) → Possible k → (lies : ℕ → Bool) → count (3 * k .f + 1) lies ≤ k .f → (m : Play) → Plays k lies m → (h : ℕ) → Honest (group (settingOf k) lies) h →
     (T (accepted (settingOf k) (after k m 5 h .posts)) → One k lies m h) ×
     ((rs : List (List ℕ)) → m .chance ≡ Some rs → Exact2 p (k .high) (k .low) rs → Honest (group (settingOf k) lies) (k .dealer) → Passes k lies m h rs)
+
+-- And there are such plays, whatever the dealer draws and whatever bytes liars send and put on the board: of liars exactly that comes.
+abbrev pub CanPlay : Type 0
+CanPlay =
+    (k : Sitting) (lies : ℕ → Bool) (chance : Option (List (List ℕ))) (mail : (round keeper : ℕ) → List (Said (List ℕ))) (lines : (round : ℕ) → List (Said (List ℕ))) →
+    (m : Play) × Plays k lies m × (m .chance ≡ chance) ×
+    ((r i : ℕ) → lies i ≡ true → ((j : ℕ) → wordsBy i (mailOf (m .lines r j)) ≡ wordsBy i (mail r j)) × (wordsBy i (m .board r) ≡ wordsBy i (lines r)))

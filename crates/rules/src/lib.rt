@@ -1,6 +1,6 @@
 // The rules of one dealing and what follows from them. Each function below stands for a theorem, which is its contract; it computes nothing.
 ghost use Rattle.rules.specs.Cases.{TableHolds};
-ghost use Rattle.rules.specs.Promise.{CanFollow, DealsFairly, FairPasses, FairShows, HidesDealing, HidesSecret, KeepsRules, Main, OneDealing, PlaysKeep};
+ghost use Rattle.rules.specs.Promise.{CanFollow, CanPlay, DealsFairly, FairPasses, FairShows, HidesDealing, HidesSecret, KeepsRules, Main, OneDealing, PlaysKeep};
 ghost use Rattle.rules.specs.Wire.{ReadsWhatIsWritten};
 
 // An accepted dealing is of one polynomial.
@@ -56,6 +56,11 @@ pub fn plays_keep()
 // With at most f liars: accepted, it is of one polynomial; and an honest dealer's is accepted.
 pub fn one_dealing()
     ensures { λ _. ⌜ OneDealing ⌝ }
+{}
+
+// There are such plays, whatever is drawn and whatever liars send.
+pub fn can_play()
+    ensures { λ _. ⌜ CanPlay ⌝ }
 {}
 
 // The worked cases come out as they should.

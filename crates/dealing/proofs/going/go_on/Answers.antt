@@ -11,6 +11,7 @@ loop-i-again c =
     let l = c .loop-i in
     let rs = c .args .revealed .now in
     let old = c .args .shares .now in
-    elim (c .match-shown .came)
-    [ in-Some w ↦ subst (λ xs. Below held rs old (l .i + 1) xs × Above held rs old (l .i + 1) xs) (sym (w .shares-is)) (taken held rs old (l .i) (l .shares) _ (omega arith) (sym (w .in-Some .ensures tt)) (l .inv .0) (l .inv .1))
-    | in-rest w ↦ subst (λ xs. Below held rs old (l .i + 1) xs × Above held rs old (l .i + 1) xs) (sym (w .shares-is)) (left held rs old (l .i) (l .shares) (sym (w .in-rest .ensures tt)) (l .inv .0) (l .inv .1)) ]
+    elim (c .match-shown .came) [
+      | in-Some w ↦ subst (λ xs. Below held rs old (l .i + 1) xs × Above held rs old (l .i + 1) xs) (sym (w .shares-is)) (taken held rs old (l .i) (l .shares) _ (omega arith) (sym (w .in-Some .ensures tt)) (l .inv .0) (l .inv .1))
+      | in-rest w ↦ subst (λ xs. Below held rs old (l .i + 1) xs × Above held rs old (l .i + 1) xs) (sym (w .shares-is)) (left held rs old (l .i) (l .shares) (sym (w .in-rest .ensures tt)) (l .inv .0) (l .inv .1))
+    ]
