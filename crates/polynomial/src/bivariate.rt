@@ -50,7 +50,7 @@ impl Shape {
 impl Bivariate {
     // The polynomial with these coefficients: for each power of x those in y, row by row. There must be as many as the shape says.
     pub fn from_slice(shape: Shape, cs: &[Element]) -> Option<Bivariate>
-        ensures { λ r. ⌜ Cases r (length (now (cs .entry)) ≡ shape .high * shape .low → ⊥) (λ f. (rowsOf f ≡ cut (shape .high) (shape .low) (numbers (now (cs .entry)))) × (f .shape ≡ shape)) ⌝ }
+        ensures { λ r. ⌜ Cases r (length (now (cs .entry)) ≡ shape .high * shape .low → ⊥) (λ f. (length (now (cs .entry)) ≡ shape .high * shape .low) × (rowsOf f ≡ cut (shape .high) (shape .low) (numbers (now (cs .entry)))) × (f .shape ≡ shape)) ⌝ }
     {
         if cs.len() != shape.size() {
             return None;
