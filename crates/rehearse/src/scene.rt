@@ -1,109 +1,141 @@
-// What stands on the stage: the keepers, and what was dealt to them.
-ghost use Prim.Native.Nat.{_+_, _*_, _<_, _≤_};
-ghost use Rattle.rehearse.specs.Refusals.{Unfit};
-ghost use Rattle.rehearse.specs.declared.expected.Expected.the-variants.{FSmall};
-ghost use Rattle.rehearse.specs.declared.scene.Dealt.{Dealt};
-ghost use Rattle.std.specs.Results.{Cases};
-ghost use Rattle.std.specs.declared.option.Option.the-variants.{Some, None};
+// What stands on the stage: the keepers, who of them lies, and a dealing.
+ghost use Prim.Native.Nat.{_*_, _+_, _≤_};
+ghost use lib.ListN.{length};
 ghost use mathlib.Core.Path.{_≡_};
+use crate::company::Company;
+use crate::draft::Draft;
 use crate::expected::Expected;
-use crate::table::Listed;
-use crate::table::ListedDisplay;
-use crate::table::Table;
-use crate::table::TableDisplay;
-use std::fmt;
+use crate::failure::Failure;
+use crate::failure::FailureFromAllocError;
+use crate::failure::FailureFromExpected;
+use crate::play::Play;
+use crate::script::Named;
+use crate::table::Rows;
+use dealing::Answer;
+use std::alloc::Global;
 
-// Who dealt, and the coefficients.
-#[derive(Clone, Copy)]
-pub struct Dealt {
-    dealer: u8,
-    table: Table,
-}
-
-// There are 3f + 1 keepers.
 #[derive(Clone, Copy)]
 pub struct Scene {
-    f: u8,
-    dealt: Option<Dealt>,
-    ghost small: { f ≤ 2 },
-    ghost dealer_there: { (d : Dealt) → dealt ≡ Some d → d .dealer < 3 * f + 1 },
-    ghost high_fits: { (d : Dealt) → dealt ≡ Some d → d .table .high ≤ f + 1 },
-    ghost low_fits: { (d : Dealt) → dealt ≡ Some d → d .table .low ≤ f + 1 },
+    pub company: Company,
+    pub liars: [bool; 7],
+    pub play: Option<Play>,
 }
 
 impl Scene {
-    // Nothing is dealt yet.
-    pub fn new(f: u64) -> Result<Scene, Expected>
-        ensures { λ r. ⌜ Cases r (λ s. (s .f ≡ f) × (s .dealt ≡ None)) (λ e. (2 < f) × (e ≡ FSmall)) ⌝ }
-    {
-        if f > 2 {
-            return Err(Expected::FSmall);
+    // All keep the rules, and nothing is dealt.
+    pub fn new(company: Company) -> Scene {
+        Scene {
+            company,
+            liars: [false; 7],
+            play: None,
         }
-        Ok(Scene {
-            f: f as u8,
-            dealt: None,
-        })
     }
 
-    // The last of the keepers.
-    fn last(&self) -> u8
-        ensures { λ r. ⌜ r ≡ 3 * now (self .entry) .f ⌝ ∗ ⌜ r ≤ 6 ⌝ }
-    {
-        3 * self.f
+    // The dealing.
+    fn dealing(&self) -> Result<Play, Expected> {
+        match self.play {
+            Some(play) => Ok(play),
+            None => Err(Expected::Dealing),
+        }
     }
 
-    // The scene once a keeper has dealt.
-    pub fn deal(&self, dealer: u64, table: Table) -> Result<Scene, Expected>
-        ensures { λ r. ⌜ Cases r (λ s. (s .f ≡ now (self .entry) .f) × (s .dealt ≡ Some (record { dealer = dealer; table = table }))) (Unfit (now (self .entry) .f) dealer (table .high) (table .low)) ⌝ }
-    {
-        let last = self.last();
-        if dealer > u64::from(last) {
-            return Err(Expected::Keeper { last });
+    // The keepers named lie from now on.
+    pub fn liar(&mut self, named: Named) -> Result<(), Expected> {
+        self.company.keeper(named.largest)?;
+        if self.play.is_some() {
+            return Err(Expected::NoDealing);
         }
-        let most = usize::from(self.f) + 1;
-        if table.high() > most {
-            return Err(Expected::FewRows);
-        }
-        if table.low() > most {
-            return Err(Expected::ShortRows);
-        }
-        let dealer = dealer as u8;
-        Ok(Scene {
-            f: self.f,
-            dealt: Some(Dealt { dealer, table }),
-        })
-    }
-}
-
-impl Dealt {
-    // What was dealt, and the share of each keeper up to the last.
-    fn show<W: fmt::Write>(&self, f: &mut fmt::Formatter<W>, last: u8) -> fmt::Result {
-        let dealer = self.dealer;
-        let table = self.table;
-        writeln!(f, "dealer {dealer} dealt {table}")?;
-        let polynomial = table.polynomial();
-        for keeper in 0..=last {
-            let share = polynomial.share(keeper);
-            let across = Listed(share.across.as_slice());
-            let down = Listed(share.down.as_slice());
-            let value = share.value().value();
-            writeln!(
-                f,
-                "keeper {keeper}: across {across}, down {down}, value {value}"
-            )?;
+        for i in 0..7 {
+            if named.each[i] {
+                self.liars[i] = true;
+            }
         }
         Ok(())
     }
-}
 
-pub impl fmt::Display for Scene as SceneDisplay {
-    fn fmt<W: fmt::Write>(&self, out: &mut fmt::Formatter<W>) -> fmt::Result {
-        let f = self.f;
-        let last = self.last();
-        writeln!(out, "f {f}, keepers 0 to {last}")?;
-        match &self.dealt {
-            Some(dealt) => dealt.show(out, last),
-            None => out.write_str("nothing dealt\n"),
+    // A keeper deals; an earlier dealing is gone.
+    pub fn deal(&mut self, dealer: u8, rows: Rows) -> Result<(), Expected> {
+        let dealer = self.company.keeper(dealer)?;
+        let table = rows.table(self.company.f() as usize + 1)?;
+        self.play = Some(Play::new(self.company, dealer, table));
+        Ok(())
+    }
+
+    // The next round is called, and whoever keeps the rules speaks: first the mail, then the lines of the board.
+    pub fn round(&mut self, heap: Global) -> Result<(), Failure> {
+        let mut play = self.dealing()?;
+        if play.round() == 6 {
+            return Err(Failure::Unusable(Expected::Undecided));
         }
+        play.call();
+        for from in 0..=self.company.last() {
+            if !self.liars[from as usize] {
+                play.say_all(heap, from)?;
+            }
+        }
+        for from in 0..=self.company.last() {
+            if !self.liars[from as usize] {
+                play.post(heap, from)?;
+            }
+        }
+        self.play = Some(play);
+        Ok(())
+    }
+
+    // The dealing, if the keeper lies.
+    fn lies(&self, keeper: u8) -> Result<Play, Expected>
+        requires { ⌜ keeper ≤ 6 ⌝ }
+    {
+        let play = self.dealing()?;
+        if !self.liars[keeper as usize] {
+            return Err(Expected::Liar);
+        }
+        Ok(play)
+    }
+
+    // A liar sends what its seat would.
+    pub fn say(&mut self, heap: Global, from: u8, to: u8) -> Result<Answer, Failure> {
+        let from = self.company.keeper(from)?;
+        let to = self.company.keeper(to)?;
+        let mut play = self.lies(from)?;
+        let answer = play.say(heap, from, to)?;
+        self.play = Some(play);
+        Ok(answer)
+    }
+
+    // A liar puts on the board what its seat would.
+    pub fn post(&mut self, heap: Global, from: u8) -> Result<[Answer; 7], Failure> {
+        let from = self.company.keeper(from)?;
+        let mut play = self.lies(from)?;
+        let answers = play.post(heap, from)?;
+        self.play = Some(play);
+        Ok(answers)
+    }
+
+    // A keeper, or somebody in its name, sends a message.
+    pub fn send(
+        &mut self,
+        heap: Global,
+        from: u8,
+        to: u8,
+        draft: Draft,
+    ) -> Result<Answer, Failure> {
+        let from = self.company.keeper(from)?;
+        let to = self.company.keeper(to)?;
+        let mut play = self.dealing()?;
+        let bytes = draft.bytes(heap, play.dealer)?;
+        let answer = play.mail(from, to, bytes.as_slice());
+        self.play = Some(play);
+        Ok(answer)
+    }
+
+    // A keeper, or somebody in its name, puts a line on the board.
+    pub fn board(&mut self, heap: Global, from: u8, draft: Draft) -> Result<Answer, Failure> {
+        let from = self.company.keeper(from)?;
+        let mut play = self.dealing()?;
+        let bytes = draft.bytes(heap, play.dealer)?;
+        let answer = play.board(from, bytes.as_slice());
+        self.play = Some(play);
+        Ok(answer)
     }
 }

@@ -1,171 +1,307 @@
 // What a line of a script says.
-ghost use Prim.Native.Nat.{ℕ};
-ghost use Rattle.rehearse.specs.Digits.{NoElement, Plain, Reads, Writes};
-ghost use Rattle.rehearse.specs.Grammar.{Blank, Follows, Lone, Says, SaysRow, SaysRows, Uncommented, nameOf};
-ghost use Rattle.rehearse.specs.Rows.{rowOf, tableOf};
-ghost use Rattle.rehearse.specs.Words.{Words};
-ghost use Rattle.rehearse.specs.declared.expected.Expected.the-variants.{Number};
-ghost use Rattle.std.specs.Options.{Cases as BySome};
-ghost use Rattle.std.specs.Orderings.{Decides};
-ghost use Rattle.std.specs.Results.{Cases};
-ghost use Rattle.std.specs.Vec.{made};
-ghost use lib.Chars.{codes};
-ghost use mathlib.Core.List.{List, [], _∷_};
-ghost use mathlib.Core.Path.{_≡_};
+use crate::company::Company;
+use crate::draft::Draft;
+use crate::draft::Row;
+use crate::draft::Said;
+use crate::draft::unhex;
 use crate::expected::Expected;
-use crate::table::Row;
-use crate::table::Table;
+use crate::failure::Failure;
+use crate::failure::FailureFromExpected;
+use crate::table::Rows;
+use crate::words;
+use crate::words::Words;
+use crate::words::WordsIterator;
 use field::Element;
+use std::alloc::Global;
 
-// Numbers are as they are written: whether they make sense is for the stage to say.
+// The keepers that a line names: whether each of the seven is among them, and the largest number.
 #[derive(Clone, Copy)]
+pub struct Named {
+    pub each: [bool; 7],
+    pub largest: u8,
+}
+
+// Whether there are such keepers is for the stage to say.
+#[derive(Drop)]
 pub enum Command {
-    F(u64),
-    Deal { dealer: u64, table: Table },
+    F(Company),
+    Liar(Named),
+    Deal { dealer: u8, rows: Rows },
+    Round,
+    Say { from: u8, to: u8 },
+    Post { from: u8 },
+    Send { from: u8, to: u8, draft: Draft },
+    Board { from: u8, draft: Draft },
     Show,
 }
 
 // Reads a line. A line of blanks and comment says nothing.
-pub fn parse(line: &str) -> Result<Option<Command>, Expected>
-    ensures { λ r. ⌜ made r (λ o. BySome o (Blank (now (line .entry))) (Says (now (line .entry)))) ⌝ }
-{
-    let text = uncommented(line);
-    let Some(first) = text.split_whitespace().next() else {
+pub fn parse(heap: Global, line: &str) -> Result<Option<Command>, Failure> {
+    let mut words = Words::new(line);
+    let Some(first) = words.next() else {
         return Ok(None);
     };
     let command = match first {
-        "f" => f(text)?,
-        "deal" => deal(text)?,
-        "show" => show(text)?,
-        _ => return Err(Expected::Command),
+        "f" => f(words)?,
+        "liar" => liar(words)?,
+        "deal" => deal(words)?,
+        "round" => {
+            words.end()?;
+            Command::Round
+        }
+        "say" => say(words)?,
+        "post" => post(words)?,
+        "send" => send(heap, words)?,
+        "board" => board(heap, words)?,
+        "show" => {
+            words.end()?;
+            Command::Show
+        }
+        _ => return Err(Failure::Unusable(Expected::Command)),
     };
     Ok(Some(command))
 }
 
-// What stands before a comment.
-fn uncommented(line: &str) -> &str
-    ensures { λ r. ⌜ Uncommented (now (line .entry)) (now r) ⌝ }
-{
-    match line.split_once('#') {
-        Some((text, _)) => text,
-        None => line,
-    }
-}
-
 // `f N`
-fn f(text: &str) -> Result<Command, Expected>
-    ensures { λ r. ⌜ made r (λ c. (nameOf c ≡ codes "f") × Follows (now (text .entry)) c) ⌝ }
-{
-    match second(text, Expected::NoMore)? {
-        Some(word) => Ok(Command::F(number(word)?)),
-        None => Err(Expected::FSmall),
-    }
-}
-
-// `deal I: R`
-fn deal(text: &str) -> Result<Command, Expected>
-    ensures { λ r. ⌜ made r (λ c. (nameOf c ≡ codes "deal") × Follows (now (text .entry)) c) ⌝ }
-{
-    let Some((head, rows)) = text.split_once(':') else {
-        return Err(Expected::Colon);
-    };
-    let Some(word) = second(head, Expected::Colon)? else {
-        return Err(Expected::Dealer);
-    };
-    let dealer = number(word)?;
-    let table = table(rows)?;
-    Ok(Command::Deal { dealer, table })
-}
-
-// `show`
-fn show(text: &str) -> Result<Command, Expected>
-    ensures { λ r. ⌜ made r (λ c. (nameOf c ≡ codes "show") × Follows (now (text .entry)) c) ⌝ }
-{
-    match second(text, Expected::NoMore)? {
-        Some(_) => Err(Expected::NoMore),
-        None => Ok(Command::Show),
-    }
-}
-
-// The second word, which must be the last: `behind` is what is expected in place of a third.
-fn second(text: &str, behind: Expected) -> Result<Option<&str>, Expected>
-    ensures { λ r. ⌜ Cases r (λ o. BySome o (Lone (now (text .entry))) (λ w. (v : List ℕ) × Words (now (text .entry)) (v ∷ (now w ∷ [])))) (λ e. e ≡ behind) ⌝ }
-{
-    let mut words = text.split_whitespace();
-    let Some(_) = words.next() else {
-        return Ok(None);
-    };
+fn f(mut words: Words<'_>) -> Result<Command, Expected> {
     let Some(word) = words.next() else {
-        return Ok(None);
+        return Err(Expected::F);
     };
-    match words.next() {
-        Some(_) => Err(behind),
-        None => Ok(Some(word)),
-    }
+    let Some(company) = Company::new(words::keeper(word)?) else {
+        return Err(Expected::F);
+    };
+    words.end()?;
+    Ok(Command::F(company))
 }
 
-// Rows with slashes between them.
-fn table(text: &str) -> Result<Table, Expected>
-    ensures { λ r. ⌜ made r (λ t. SaysRows (now (text .entry)) (tableOf (t .high) (t .low) (t .cells))) ⌝ }
-{
-    let mut parts = text.split('/');
-    let Some(first) = parts.next() else {
-        return Err(Expected::Coefficient);
+// `liar I ..`
+fn liar(mut words: Words<'_>) -> Result<Command, Expected> {
+    let mut named = Named {
+        each: [false; 7],
+        largest: words.keeper()?,
     };
-    let mut table = Table::new(&row(first)?);
-    for part in parts {
-        table.push(&row(part)?)?;
+    named = named.with(named.largest);
+    for word in words {
+        named = named.with(words::keeper(word)?);
     }
-    Ok(table)
+    Ok(Command::Liar(named))
 }
 
-// Numbers with blanks between them.
-fn row(text: &str) -> Result<Row, Expected>
-    ensures { λ r. ⌜ made r (λ w. SaysRow (now (text .entry)) (rowOf (w .len) (w .cells))) ⌝ }
-{
-    let mut cells = [Element::zero(); 3];
-    let mut len = 0;
-    for word in text.split_whitespace() {
-        if len == 3 {
-            return Err(Expected::ShortRows);
+impl Named {
+    fn with(self, keeper: u8) -> Named {
+        let mut next = self;
+        if keeper < 7 {
+            next.each[keeper as usize] = true;
         }
-        cells[len] = coefficient(word)?;
-        len += 1;
+        next.largest = self.largest.max(keeper);
+        next
     }
-    if len == 0 {
-        return Err(Expected::Coefficient);
+}
+
+// `deal D: ROWS`
+fn deal(mut words: Words<'_>) -> Result<Command, Expected> {
+    let dealer = dealer(&mut words)?;
+    let mut rows = Rows::new();
+    for word in words {
+        rows = if word == "/" {
+            rows.ended()?
+        } else {
+            rows.with(coefficient(word)?)
+        };
     }
-    Ok(Row::new(cells, len))
+    Ok(Command::Deal {
+        dealer,
+        rows: rows.ended()?,
+    })
+}
+
+// A keeper with a colon behind it, or as the next word.
+fn dealer(words: &mut Words<'_>) -> Result<u8, Expected> {
+    let Some(word) = words.next() else {
+        return Err(Expected::Named);
+    };
+    match word.strip_suffix(':') {
+        Some("") => Err(Expected::Dealer),
+        Some(number) => words::keeper(number),
+        None => {
+            let dealer = words::keeper(word)?;
+            match words.next() {
+                Some(":") => Ok(dealer),
+                _ => Err(Expected::Colon),
+            }
+        }
+    }
 }
 
 // A number of the field.
-fn coefficient(word: &str) -> Result<Element, Expected>
-    ensures { λ r. ⌜ Cases r (λ c. Writes (now (word .entry)) (c .value)) (NoElement (now (word .entry))) ⌝ }
-{
-    match Element::new(number(word)?) {
-        Some(element) => Ok(element),
-        None => Err(Expected::Small),
+fn coefficient(word: &str) -> Result<Element, Expected> {
+    match words::number(word) {
+        Ok(number) => match Element::new(number) {
+            Some(element) => Ok(element),
+            None => Err(Expected::Small),
+        },
+        Err(Expected::Fitting) => Err(Expected::Small),
+        Err(expected) => Err(expected),
     }
 }
 
-// The number that a word writes, or the largest of 64 bits where that is too large.
-fn number(word: &str) -> Result<u64, Expected>
-    ensures { λ r. ⌜ Cases r (Reads (now (word .entry))) (λ e. (e ≡ Number) × (Plain (now (word .entry)) → ⊥)) ⌝ }
-{
-    if !is_digits(word) {
-        return Err(Expected::Number);
-    }
-    Ok(word.parse::<u64>().unwrap_or(u64::MAX))
+// `say I J`
+fn say(mut words: Words<'_>) -> Result<Command, Expected> {
+    let from = words.keeper()?;
+    let to = words.keeper()?;
+    words.end()?;
+    Ok(Command::Say { from, to })
 }
 
-// Is a word all digits?
-fn is_digits(word: &str) -> bool
-    ensures { λ r. ⌜ Decides r (Plain (now (word .entry))) ⌝ }
-{
-    for byte in word.as_bytes() {
-        if !byte.is_ascii_digit() {
-            return false;
+// `post I`
+fn post(mut words: Words<'_>) -> Result<Command, Expected> {
+    let from = words.keeper()?;
+    words.end()?;
+    Ok(Command::Post { from })
+}
+
+// `send I J MESSAGE`
+fn send(heap: Global, mut words: Words<'_>) -> Result<Command, Failure> {
+    let from = words.keeper()?;
+    let to = words.keeper()?;
+    let draft = draft(heap, words)?;
+    Ok(Command::Send { from, to, draft })
+}
+
+// `board I MESSAGE`
+fn board(heap: Global, mut words: Words<'_>) -> Result<Command, Failure> {
+    let from = words.keeper()?;
+    let draft = draft(heap, words)?;
+    Ok(Command::Board { from, draft })
+}
+
+// `[night N] [dealer D] KIND ..`
+fn draft(heap: Global, mut words: Words<'_>) -> Result<Draft, Failure> {
+    let night = if words.pass("night") {
+        Some(words.night()?)
+    } else {
+        None
+    };
+    let dealer = if words.pass("dealer") {
+        Some(words.byte()?)
+    } else {
+        None
+    };
+    if night.is_none() && dealer.is_none() && words.pass("hex") {
+        return bytes(heap, words);
+    }
+    let said = said(words)?;
+    Ok(Draft::Message {
+        night: night.unwrap_or(0),
+        dealer,
+        said,
+    })
+}
+
+// `hex DIGITS`
+fn bytes(heap: Global, mut words: Words<'_>) -> Result<Draft, Failure> {
+    let Some(word) = words.next() else {
+        return Err(Failure::Unusable(Expected::Hex));
+    };
+    let bytes = unhex(heap, word)?;
+    words.end()?;
+    Ok(Draft::Bytes(bytes))
+}
+
+// `KIND ..`
+fn said(mut words: Words<'_>) -> Result<Said, Expected> {
+    let Some(kind) = words.next() else {
+        return Err(Expected::Message);
+    };
+    match kind {
+        "share" => share(words),
+        "told" => told(words),
+        "complaint" => complaint(words),
+        "reveal" => reveal(words),
+        "fine" => fine(words),
+        "finished" => finished(words),
+        "value" => value(words),
+        _ => Err(Expected::Message),
+    }
+}
+
+fn share(words: Words<'_>) -> Result<Said, Expected> {
+    let (across, down) = sides(words)?;
+    Ok(Said::Share { across, down })
+}
+
+fn told(mut words: Words<'_>) -> Result<Said, Expected> {
+    let across = words.number()?;
+    let down = words.number()?;
+    words.end()?;
+    Ok(Said::Told { across, down })
+}
+
+fn complaint(mut words: Words<'_>) -> Result<Said, Expected> {
+    let by = words.byte()?;
+    let about = words.byte()?;
+    let across = words.number()?;
+    let down = words.number()?;
+    words.end()?;
+    Ok(Said::Complaint {
+        by,
+        about,
+        across,
+        down,
+    })
+}
+
+fn reveal(mut words: Words<'_>) -> Result<Said, Expected> {
+    let keeper = words.byte()?;
+    let (across, down) = sides(words)?;
+    Ok(Said::Reveal {
+        keeper,
+        across,
+        down,
+    })
+}
+
+fn fine(mut words: Words<'_>) -> Result<Said, Expected> {
+    let keeper = words.byte()?;
+    let fine = match words.next() {
+        Some("yes") => true,
+        Some("no") => false,
+        _ => return Err(Expected::YesOrNo),
+    };
+    words.end()?;
+    Ok(Said::Fine { keeper, fine })
+}
+
+fn finished(mut words: Words<'_>) -> Result<Said, Expected> {
+    let keeper = words.byte()?;
+    words.end()?;
+    Ok(Said::Finished { keeper })
+}
+
+fn value(mut words: Words<'_>) -> Result<Said, Expected> {
+    let keeper = words.byte()?;
+    let value = words.number()?;
+    words.end()?;
+    Ok(Said::Value { keeper, value })
+}
+
+// `A .. / D ..`
+fn sides(words: Words<'_>) -> Result<(Row, Row), Expected> {
+    let mut across = None;
+    let mut row = Row::new();
+    for word in words {
+        if word == "/" {
+            if across.is_some() {
+                return Err(Expected::Slash);
+            }
+            across = Some(row);
+            row = Row::new();
+        } else {
+            row = row.with(words::number(word)?)?;
         }
     }
-    !word.is_empty()
+    match across {
+        Some(across) => Ok((across, row)),
+        None => Err(Expected::Slash),
+    }
 }

@@ -1,73 +1,85 @@
 // The stage that a script plays on.
-ghost use Prim.Native.Nat.{_<_};
-ghost use Rattle.rehearse.specs.Plays.{Bare, Done, Holds, Refused};
-ghost use Rattle.rehearse.specs.declared.expected.Expected.the-variants.{FGiven, FSmall};
-ghost use Rattle.std.specs.Results.{Cases};
 ghost use Rattle.std.specs.Vec.{refused};
-ghost use Rattle.std.specs.declared.option.Option.the-variants.{Some, None};
 ghost use mathlib.Core.Path.{_≡_};
 use crate::expected::Expected;
+use crate::failure::Failure;
+use crate::failure::FailureFromAllocError;
+use crate::failure::FailureFromExpected;
 use crate::scene::Scene;
 use crate::script::Command;
-use crate::table::Table;
+use dealing::Answer;
+use std::alloc::Global;
 
 // Empty until f is given.
 #[derive(Clone, Copy)]
 pub struct Stage {
-    scene: Option<Scene>,
+    pub scene: Option<Scene>,
+}
+
+// What a command that is carried out gives.
+#[derive(Clone, Copy)]
+pub enum Reply {
+    Nothing,
+    // What was made of the messages that were said.
+    Answered([Answer; 7]),
+    // What stands is to be shown.
+    Show,
+}
+
+// What was made of one message.
+fn one(answer: Answer) -> Reply {
+    let mut answers = [Answer::Taken; 7];
+    answers[0] = answer;
+    Reply::Answered(answers)
 }
 
 impl Stage {
-    pub fn new() -> Stage
-        ensures { λ r. ⌜ r .scene ≡ None ⌝ }
-    {
+    pub fn new() -> Stage {
         Stage { scene: None }
     }
 
-    // Carries out a command, and gives what there is to show. A refusal changes nothing.
-    pub fn carry_out(&mut self, command: Command) -> Result<Option<Scene>, Expected>
-        ensures done { λ r. ⌜ Cases r (Done command (now (self .entry) .scene) (now (self .exit) .scene)) (Refused command (now (self .entry) .scene)) ⌝ }
+    // Carries out a command. If it can't be, nothing changes.
+    pub fn carry_out(&mut self, heap: Global, command: Command) -> Result<Reply, Failure>
         ensures same { λ r. ⌜ refused r (λ _. now (self .exit) ≡ now (self .entry)) ⌝ }
     {
-        match command {
-            Command::F(f) => {
-                self.f(f)?;
-                Ok(None)
-            }
-            Command::Deal { dealer, table } => {
-                self.deal(dealer, table)?;
-                Ok(None)
-            }
-            Command::Show => Ok(Some(self.show()?)),
+        if let Command::F(company) = command {
+            self.scene = Some(Scene::new(company));
+            return Ok(Reply::Nothing);
         }
+        let Some(mut scene) = self.scene else {
+            return Err(Failure::Unusable(Expected::FGiven));
+        };
+        let reply = scene.play(heap, command)?;
+        self.scene = Some(scene);
+        Ok(reply)
     }
+}
 
-    // Sets f, and forgets what was dealt.
-    fn f(&mut self, f: u64) -> Result<(), Expected>
-        ensures done { λ r. ⌜ Cases r (λ _. Bare f (now (self .exit) .scene)) (λ e. (2 < f) × (e ≡ FSmall)) ⌝ }
-        ensures same { λ r. ⌜ refused r (λ _. now (self .exit) ≡ now (self .entry)) ⌝ }
-    {
-        self.scene = Some(Scene::new(f)?);
-        Ok(())
-    }
-
-    // What a keeper deals takes the place of what was dealt before.
-    fn deal(&mut self, dealer: u64, table: Table) -> Result<(), Expected>
-        ensures done { λ r. ⌜ Cases r (λ _. Holds (now (self .entry) .scene) dealer table (now (self .exit) .scene)) (Refused (Command.Deal dealer table) (now (self .entry) .scene)) ⌝ }
-        ensures same { λ r. ⌜ refused r (λ _. now (self .exit) ≡ now (self .entry)) ⌝ }
-    {
-        let scene = self.show()?;
-        self.scene = Some(scene.deal(dealer, table)?);
-        Ok(())
-    }
-
-    // What stands.
-    fn show(&self) -> Result<Scene, Expected>
-        ensures { λ r. ⌜ Cases r (λ s. now (self .entry) .scene ≡ Some s) (λ e. (now (self .entry) .scene ≡ None) × (e ≡ FGiven)) ⌝ }
-    {
-        match self.scene {
-            Some(scene) => Ok(scene),
-            None => Err(Expected::FGiven),
+impl Scene {
+    // Carries out a command on a copy.
+    fn play(&mut self, heap: Global, command: Command) -> Result<Reply, Failure> {
+        match command {
+            Command::F(company) => {
+                *self = Scene::new(company);
+                Ok(Reply::Nothing)
+            }
+            Command::Liar(named) => {
+                self.liar(named)?;
+                Ok(Reply::Nothing)
+            }
+            Command::Deal { dealer, rows } => {
+                self.deal(dealer, rows)?;
+                Ok(Reply::Nothing)
+            }
+            Command::Round => {
+                self.round(heap)?;
+                Ok(Reply::Nothing)
+            }
+            Command::Say { from, to } => Ok(one(self.say(heap, from, to)?)),
+            Command::Post { from } => Ok(Reply::Answered(self.post(heap, from)?)),
+            Command::Send { from, to, draft } => Ok(one(self.send(heap, from, to, draft)?)),
+            Command::Board { from, draft } => Ok(one(self.board(heap, from, draft)?)),
+            Command::Show => Ok(Reply::Show),
         }
     }
 }

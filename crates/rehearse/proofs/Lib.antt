@@ -1,3 +1,0 @@
-mod Parts
-mod Reading
-mod Tables
