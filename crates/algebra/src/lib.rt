@@ -1,4 +1,6 @@
 // The laws of polynomials modulo a prime. Each function below stands for a law, which is its contract; it computes nothing.
+#![tactic(auto)]
+
 ghost use Rattle.algebra.specs.Laws.{Determined, FewRoots, Interpolation, InterpolationOfNumbers, Inverses, Linearity, MovesApart, Shares, Vanishing};
 ghost use Rattle.algebra.specs.Prime.{Prime, p};
 

@@ -1,4 +1,6 @@
 // One keeper's seat in one dealing: which messages it takes, what it says in each round, and what it keeps.
+#![tactic(auto)]
+
 mod board;
 mod calls;
 mod going;

@@ -1,4 +1,6 @@
 // Worked examples, run as tests. Expected values were worked out by hand.
+#![tactic(auto)]
+
 #[cfg(test)]
 mod bytes;
 #[cfg(test)]

@@ -1,4 +1,6 @@
 // The field and its polynomials for callers in C and Rust. Numbers come as plain words; where one of them is not below P the answer is u64::MAX, which is no number of the field.
+#![tactic(auto)]
+
 ghost use Rattle.std.specs.Prelude.{◌≡◌, ℕ, ◌-◌, ◌*◌, ◌%◌, ◌^◌, ◌<◌, ◌≤◌, [], ◌∷◌, MatchOption};
 ghost use Rattle.algebra.specs.Polynomial.{value};
 ghost use Rattle.algebra.specs.Prime.{p};

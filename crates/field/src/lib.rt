@@ -1,4 +1,6 @@
 // Numbers modulo the prime 2^61 - 1.
+#![tactic(auto)]
+
 mod element;
 mod residue;
 

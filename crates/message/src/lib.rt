@@ -1,4 +1,6 @@
 // Messages and their bytes.
+#![tactic(auto)]
+
 mod reading;
 mod types;
 mod writing;

@@ -1,4 +1,6 @@
 // All nights, and what follows from the rules. Each function below stands for a theorem, which is its contract; it computes nothing.
+#![tactic(auto)]
+
 ghost use Rattle.nights.specs.Promise.{CanBeKept, CanPlay, PlaysKeeps, Theorem, TheoremOfNights};
 
 // Through all nights the secret stays, can be had back, and is hidden.

@@ -1,4 +1,6 @@
 // Polynomials in one and two unknowns over the field, and the shares that a dealer makes of one.
+#![tactic(auto)]
+
 mod bivariate;
 mod polynomial;
 mod share;

@@ -1,4 +1,6 @@
 // Reads a script and plays it, line by line.
+#![tactic(auto)]
+
 ghost use Rattle.std.specs.Prelude.{◌≡◌, OnErr};
 
 mod company;

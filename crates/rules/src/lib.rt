@@ -1,4 +1,6 @@
 // The rules of one dealing and what follows from them. Each function below stands for a theorem, which is its contract; it computes nothing.
+#![tactic(auto)]
+
 ghost use Rattle.rules.specs.Cases.{TableHolds};
 ghost use Rattle.rules.specs.Promise.{CanFollow, CanPlay, DealsFairly, FairPasses, FairShows, HidesBytes, HidesDealing, HidesSecret, KeepsRules, Main, OneDealing, PlaysKeep};
 ghost use Rattle.rules.specs.Wire.{ReadsWhatIsWritten};
