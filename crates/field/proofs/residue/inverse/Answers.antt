@@ -5,14 +5,14 @@ use Rattle.field.proofs.residue.inverse.Goals as goal
 pub loop-left-init : goal.loop-left-init
 loop-left-init c = start c.args.a c.requires.0 c.requires.1
 
-pub overflow-add-next : goal.overflow-add-next
-overflow-add-next c = let l = c.loop-left in omega (arith, bound c.args.a l.over l.left l.before l.by l.invariant.some l.invariant.whole)
+pub overflow_add-next : goal.overflow_add-next
+overflow_add-next c = let l = c.loop-left in omega (arith, bound c.args.a l.over l.left l.before l.by l.invariant.some l.invariant.whole)
 
 pub loop-left-preserved : goal.loop-left-preserved
 loop-left-preserved c = let l = c.loop-left in turn c.args.a l.over l.left l.before l.by l.negated (omega arith) l.invariant
 
-pub overflow-sub-result : goal.overflow-sub-result
-overflow-sub-result c = let l = c.loop-left in omega (arith, l.invariant.whole, mul-le-mul_right {m = 1} {n = l.over} l.by (omega (arith, l.invariant.less)))
+pub overflow_sub-result : goal.overflow_sub-result
+overflow_sub-result c = let l = c.loop-left in omega (arith, l.invariant.whole, mul-le-mul_right {m = 1} {n = l.over} l.by (omega (arith, l.invariant.less)))
 
 pub returns-then-negated : goal.returns-then-negated
 returns-then-negated c =
