@@ -13,8 +13,8 @@ loop-i-preserved c =
     across_more l.i f.shape.high c.args.y c.evaluate.result r.result f.rows l.coefficients l.invariant.0 f.shape.high_short (omega arith) (omega (arith, f.six, f.shape.high_short)) r.is
     (c.evaluate.ensures ∙ ap (λ g. value p (coeffs g) c.args.y.value) (sym r.is)) l.invariant.1 l.invariant.2
 
-pub invariant-of-result : goal.invariant-of-result
-invariant-of-result c = search rules
+pub invariant_of-result : goal.invariant_of-result
+invariant_of-result c = search rules
 
 pub returns : goal.returns
 returns c = search (rules, across_whole)
