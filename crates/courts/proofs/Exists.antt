@@ -180,7 +180,7 @@ module _ (f many : ℕ) (lies : ℕ → ℕ → Bool) (draws : ℕ → ℕ → L
       zero_only P h (suc t) l = absurd (omega arith)
 
       set_one : Called one lies
-      unfolding one
+      unfolding one run
       set_one = record {
         few = omega arith;
         rounds = zero_only (λ t. (1 ≤ calls t) × (calls t ≤ 6)) (rounds 0 some);

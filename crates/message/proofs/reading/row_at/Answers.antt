@@ -3,8 +3,8 @@ use Rattle.rules.specs.Wire.{row_at}
 use Rattle.message.proofs.Rows.{read_more, small_numbers, too_large}
 use Rattle.message.proofs.reading.row_at.Goals as goal
 
-pub returns-in-err-numbers : goal.returns-in-err-numbers
-returns-in-err-numbers c = let big = c.in-err-numbers.ensures in rw c.from-residual.ensures (search (rules, too_large))
+pub returns-in_err-numbers : goal.returns-in_err-numbers
+returns-in_err-numbers c = let big = c.in_err-numbers.ensures in rw c.from_residual.ensures (search (rules, too_large))
 
 pub loop-k-init : goal.loop-k-init
 unfolding row_at
