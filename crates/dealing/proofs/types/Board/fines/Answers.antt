@@ -6,8 +6,8 @@ use Rattle.dealing.proofs.types.Board.fines.Goals.{then-fine, else-fine}
 pub loop-i-init : goal.loop-i-init
 loop-i-init c = sym (count_none _)
 
-pub overflow-add-fines : goal.overflow-add-fines
-overflow-add-fines c = omega (arith, count_bound c.loop-i.i c.loop-i.fines _ c.loop-i.invariant)
+pub overflow_add-fines : goal.overflow_add-fines
+overflow_add-fines c = omega (arith, count_bound c.loop-i.i c.loop-i.fines _ c.loop-i.invariant)
 
 pub loop-i-preserved : goal.loop-i-preserved
 loop-i-preserved c = elim c.if-fine.branch [
