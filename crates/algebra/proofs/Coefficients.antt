@@ -1,5 +1,5 @@
 -- Coefficients below p: sums, multiples and products of lists, what is left with one unknown set, and that such lists are determined by their values.
-use mathlib.Core.Path.{◌≡◌, refl, sym, ap, ◌∙◌, subst}
+use mathlib.Core.Path.{◌≡◌, refl, ap, ◌∙◌, subst}
 use mathlib.Core.Logic.{⊎_elim}
 use mathlib.Core.List.{List, [], ◌∷◌, Memᴰ}
 use Prim.Native.Nat.{ℕ, suc, max, ◌+◌, ◌*◌, ◌%◌, ◌<◌, ◌≤◌}
@@ -8,9 +8,9 @@ use native.Mathlib.Nat.{mod-lt, mod-eq_of_lt}
 use lib.ListN.{length}
 use Rattle.algebra.specs.Prime.{Prime}
 use Rattle.algebra.specs.Counting.{Distinct}
-use Rattle.algebra.specs.Polynomial.{value, Low2, Exact, Exact2, plus, times, product, plus2, times2, outer, set_first, set_second}
+use Rattle.algebra.specs.Polynomial.{Low2, Exact, Exact2, plus, times, product, plus2, times2, outer, set_first, set_second}
 use Rattle.algebra.specs.Laws.{Apart}
-use Rattle.algebra.proofs.Same.{Same, same, rest, back, equal, so, ◌⊞◌, ◌⊟◌, ◌⊠◌, split, vanishes}
+use Rattle.algebra.proofs.Same.{Same, same, rest, back, equal, so, ◌⊞◌, ◌⊠◌, split, vanishes}
 use Rattle.algebra.proofs.Evaluation.{eval, value_is, agree}
 use Rattle.algebra.proofs.Rows.{eval2}
 use Rattle.algebra.proofs.Members.{upto, upto_below, upto-differ, length-upto}

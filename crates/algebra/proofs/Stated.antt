@@ -1,19 +1,17 @@
 -- The laws as they are stated: of values, that is, of remainders.
-use mathlib.Core.Path.{◌≡◌, refl, sym, ap, ◌∙◌}
-use mathlib.Core.Logic.{◌⊎◌, ⊎_elim}
-use mathlib.Core.List.{List, [], ◌∷◌, Memᴰ}
-use Prim.Native.Nat.{ℕ, suc, ◌+◌, ◌*◌, ◌%◌, ◌≤◌}
+use mathlib.Core.Path.{◌≡◌, refl, sym, ◌∙◌}
+use mathlib.Core.Logic.{⊎_elim}
+use mathlib.Core.List.{List, [], ◌∷◌}
+use Prim.Native.Nat.{ℕ, ◌%◌}
 use native.Mathlib.Omega.{arith}
 use native.Mathlib.Nat.{mod-lt, mod-eq_of_lt}
-use lib.ListN.{length}
-use Rattle.algebra.specs.Prime.{Prime}
-use Rattle.algebra.specs.Polynomial.{value, value2, Exact, Exact2, set_first, set_second}
-use Rattle.algebra.specs.Laws.{FewRoots, Determined, Interpolation, InterpolationOfNumbers, Vanishing, Linear, Linearity, Inverses, Shares, MovesApart}
-use Rattle.algebra.proofs.Same.{Same, same, rest, back, so, none, ◌⊞◌, ◌⊟◌, ◌⊠◌}
+use Rattle.algebra.specs.Polynomial.{value}
+use Rattle.algebra.specs.Laws.{FewRoots, Determined, Interpolation, InterpolationOfNumbers, Vanishing, Linearity, Inverses, Shares, MovesApart}
+use Rattle.algebra.proofs.Same.{Same, same, rest, back, so, ◌⊞◌, ◌⊟◌, ◌⊠◌}
 use Rattle.algebra.proofs.Evaluation.{eval, value_is, down, agree}
 use Rattle.algebra.proofs.Inverse.{inverse}
-use Rattle.algebra.proofs.Rows.{eval2, value2_is, column, column_is, length-column, through, Through}
-use Rattle.algebra.proofs.Mask.{vanishing, Vanishes}
+use Rattle.algebra.proofs.Rows.{value2_is, column, column_is, length-column, through}
+use Rattle.algebra.proofs.Mask.{vanishing}
 use Rattle.algebra.proofs.Coefficients.{plus_is, length-plus, times_is, length-times, product_is, length-product, plus2_is, times2_is, outer_is, low_outer, first_is, second_is, exact_first, exact_second, determined, apart-plus2}
 
 -- between values and whole numbers

@@ -1,24 +1,21 @@
 -- In a night with all its rounds, each dealing is played as it would be by itself.
-use Rattle.std.proofs.Common.{◌≡◌, ℕ, zero, suc, ◌+◌, ◌-◌, ◌*◌, ◌<◌, ◌≤◌, Bool, true, false, cond, not, ◌||◌, eqb, ltb, List, [], ◌∷◌, ◌++◌, map, Some, None, Option, sym, refl, ap, ◌∙◌, subst, ap₂, append-nil, arith, le-ltb, lt-ltb, eq-eqb, ne_eqb}
+use Rattle.std.proofs.Common.{◌≡◌, ℕ, zero, suc, ◌+◌, ◌-◌, ◌*◌, ◌<◌, ◌≤◌, Bool, true, false, cond, not, ◌||◌, eqb, [], ◌∷◌, ◌++◌, map, Some, None, Option, sym, refl, ap, ◌∙◌, subst, ap₂, append-nil, arith, le-ltb, lt-ltb, eq-eqb, ne_eqb}
 use mathlib.Core.Path.{fun_ext}
-use mathlib.Core.List.{foldl, map-append}
-use native.Mathlib.Decide.{ℕ_discrete, dec_lt}
+use native.Mathlib.Decide.{dec_lt}
 use Rattle.std.specs.Option.{option_to_list}
 use Rattle.rules.specs.Deal.{Honest}
 use Rattle.rules.specs.Rounds.{words_by}
 use Rattle.rules.specs.Message.{Message, Finished}
 use Rattle.rules.specs.Wire.{wire}
-use Rattle.rules.specs.Seat as seat
 use Rattle.rules.specs.Seat.{Terms, State, known, mail_to, line_of}
 use Rattle.rules.specs.Play as play
 use Rattle.rules.specs.Play.{collected, mail_of, board_of}
 use Rattle.rules.proofs.Sat.{late_call}
 use Rattle.nights.specs.Run.{Lasting, at}
-use Rattle.courts.specs.Court.{Court, at_day, dealers_of, low_of, members, terms_at, seat_at, letter_to, letters_to, post_at, posts_up_to, posts_of, finished_word}
+use Rattle.courts.specs.Court.{Court, at_day, dealers_of, members, terms_at, seat_at, letter_to, post_at, posts_up_to, finished_word}
 use Rattle.courts.specs.Nights.{Nights, Called, Born, Plays, keepers_of, begins, within, called, sends, posts}
-use Rattle.courts.proofs.Routing.{tagged}
-use Rattle.courts.proofs.Sits.{Sits, sits, sits_call, sitting, play_of, lines_for, board_for, keep, terms_are, seats_are, calls_are}
-use Rattle.courts.proofs.Tags.{of_tag, of_tag_append, mail-tagged, board-tagged, words_keep, each_tag, posts_tag, mail-names, line_names}
+use Rattle.courts.proofs.Sits.{Sits, sits, sits_call, sitting, play_of, lines_for, board_for, keep, terms_are, calls_are}
+use Rattle.courts.proofs.Tags.{of_tag, mail-tagged, board-tagged, words_keep, each_tag, posts_tag, mail-names, line_names}
 use Rattle.courts.proofs.Eves.{Here, eves}
 use Rattle.courts.proofs.Public.{call_here}
 

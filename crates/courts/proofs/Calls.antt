@@ -1,17 +1,15 @@
 -- A court through the rounds of a night.
-use Rattle.std.proofs.Common.{◌≡◌, ℕ, zero, suc, ◌+◌, ◌*◌, ◌<◌, ◌≤◌, Bool, true, false, cond, not, ◌&&◌, eqb, ltb, leb, ◌≢◌, List, [], ◌∷◌, map, length, get_or, set, replicate, Some, None, Option, sym, refl, ap, ◌∙◌, subst, ap₂, true≢false, arith, length-set, get_or-set_other, get_or-set_same, lt-ltb, eq-eqb, ne_eqb}
+use Rattle.std.proofs.Common.{◌≡◌, ℕ, zero, suc, ◌+◌, ◌<◌, ◌≤◌, Bool, true, false, cond, not, eqb, ltb, List, map, length, get_or, set, replicate, None, Option, sym, refl, ap, ◌∙◌, subst, true≢false, arith, get_or-set_other, get_or-set_same, lt-ltb, eq-eqb, ne_eqb}
 use mathlib.Core.Bool.{false≢true}
-use mathlib.Core.List.{foldl}
 use native.Mathlib.Decide.{ℕ_discrete}
-use lib.ListN.{get_or-replicate}
 use Rattle.std.specs.List.{range_with_len}
 use Rattle.std.specs.Option.{option_map}
 use Rattle.algebra.specs.Prime.{p}
 use Rattle.algebra.specs.Sharing.{share_of}
-use Rattle.rules.specs.Rounds.{Hand, Posts, nothing_heard, nothing_posted}
+use Rattle.rules.specs.Rounds.{Hand, nothing_heard, nothing_posted}
 use Rattle.rules.specs.Seat as seat
 use Rattle.rules.specs.Seat.{Terms, State, unless}
-use Rattle.courts.specs.Court.{Court, Line, Round, Over, terms_at, seat_at, outcome, advanced, own_hand, decided_at, called, ended}
+use Rattle.courts.specs.Court.{Court, Round, Over, terms_at, seat_at, outcome, advanced, own_hand, decided_at, ended}
 use Rattle.courts.specs.Nights.{step}
 
 -- the first five calls

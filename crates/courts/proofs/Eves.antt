@@ -1,13 +1,13 @@
 -- A court that keeps the rules as a night begins: by day, with nothing but its value.
-use Rattle.std.proofs.Common.{◌≡◌, ℕ, zero, suc, ◌+◌, ◌*◌, ◌<◌, ◌≤◌, Bool, true, false, cond, T, eqb, List, map, length, replicate, Some, None, Option, sym, refl, ap, ◌∙◌, subst, ap₂, arith, eq-eqb, ne_eqb}
+use Rattle.std.proofs.Common.{◌≡◌, ℕ, zero, suc, ◌+◌, ◌<◌, ◌≤◌, Bool, false, cond, eqb, List, map, replicate, Some, None, Option, sym, refl, ap, ◌∙◌, subst, ap₂, arith, eq-eqb, ne_eqb}
 use native.Mathlib.Decide.{ℕ_discrete}
 use Rattle.std.specs.List.{range_with_len}
 use Rattle.rules.specs.Deal.{Honest}
 use Rattle.rules.specs.Rounds.{nothing_heard}
 use Rattle.rules.specs.Play as play
 use Rattle.nights.specs.Run.{Lasting, at}
-use Rattle.courts.specs.Court.{Court, Chance, Round, Over, at_day, fresh, advanced, decided_at, ended, next_night, is_over, renewed}
-use Rattle.courts.specs.Nights.{Nights, Called, Born, keepers_of, step, fed, during, begins, within, called}
+use Rattle.courts.specs.Court.{Court, Round, at_day, fresh, advanced, decided_at, next_night, is_over, renewed}
+use Rattle.courts.specs.Nights.{Nights, Called, Born, keepers_of, step, fed, during, begins, within}
 use Rattle.courts.proofs.Routing.{fed_same}
 use Rattle.courts.proofs.Calls.{call_last, end_is}
 use Rattle.courts.proofs.Sits.{Sits, sits}

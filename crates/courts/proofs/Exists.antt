@@ -1,11 +1,10 @@
 -- There are runs in which those that keep the rules run their courts, whatever is drawn and whatever liars send.
-use Rattle.std.proofs.Common.{◌≡◌, ℕ, zero, suc, ◌+◌, ◌-◌, ◌*◌, ◌<◌, ◌≤◌, Bool, true, false, cond, ◌&&◌, T, eqb, List, [], ◌∷◌, ◌++◌, map, length, Some, None, sym, refl, ap, ◌∙◌, subst, ap₂, append-nil, arith, eq-eqb, ne_eqb}
+use Rattle.std.proofs.Common.{◌≡◌, ℕ, zero, suc, ◌+◌, ◌-◌, ◌*◌, ◌<◌, ◌≤◌, Bool, true, false, cond, ◌&&◌, T, eqb, List, [], ◌++◌, map, length, sym, refl, ap, ◌∙◌, append-nil, arith, eq-eqb, ne_eqb}
 use Rattle.rules.specs.Deal.{Honest}
 use Rattle.rules.specs.Rounds.{Said, words_by}
 use Rattle.rules.specs.Course.{spoken}
 use Rattle.rules.specs.Wire.{wire, small}
-use Rattle.rules.specs.Play as play
-use Rattle.rules.specs.Play.{mail_of, board_of}
+use Rattle.rules.specs.Play.{mail_of}
 use Rattle.rules.proofs.Playing.{spoken_honest, spoken_liar}
 use Rattle.rules.proofs.Seated.{lines_of, mail_back, board_back}
 use Rattle.nights.specs.Run.{Lasting, at}

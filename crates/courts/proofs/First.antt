@@ -1,12 +1,10 @@
 -- What a court keeps after the first night; and that the board alone says whether a night is over.
-use Rattle.std.proofs.Common.{◌≡◌, ℕ, zero, suc, ◌+◌, ◌*◌, ◌%◌, ◌<◌, ◌≤◌, Bool, true, false, cond, ◌&&◌, eqb, leb, List, map, get_or, Some, None, Option, sym, refl, ap, ◌∙◌, subst, ap₂, arith}
-use mathlib.Core.List.{foldl}
+use Rattle.std.proofs.Common.{◌≡◌, ℕ, suc, ◌+◌, ◌*◌, ◌%◌, ◌<◌, ◌≤◌, Bool, true, false, cond, ◌&&◌, eqb, leb, get_or, Some, None, Option, sym, refl, ap, ◌∙◌, ap₂, arith}
 use Rattle.std.specs.Option.{option_map}
 use Rattle.algebra.specs.Prime.{p}
 use Rattle.algebra.specs.Counting.{count}
 use Rattle.algebra.specs.Sharing.{point}
 use Rattle.rules.specs.Deal.{Honest}
-use Rattle.rules.specs.Rounds.{Said}
 use Rattle.rules.specs.Play as play
 use Rattle.nights.specs.Run.{Lasting, at}
 use Rattle.courts.specs.Court.{Court, at_day, fresh, members, gains, renewed}

@@ -1,13 +1,11 @@
 -- The promise of every night: dealings, values, and having the secret back.
-use Rattle.std.proofs.Common.{◌≡◌, ℕ, zero, suc, ◌+◌, ◌*◌, ◌<◌, ◌≤◌, Bool, true, false, cond, T, eqb, List, get_or, Some, None, Option, sym, refl, ap, ◌∙◌, subst, ap₂, arith}
-use Rattle.std.specs.List.{range_with_len}
-use Rattle.std.proofs.lemmas.List.FromFn.{get_or-map-range_with_len}
+use Rattle.std.proofs.Common.{◌≡◌, ℕ, suc, ◌+◌, ◌*◌, ◌<◌, ◌≤◌, Bool, T, get_or, Some, None, sym, refl, ap, ◌∙◌, subst, ap₂, arith}
 use Rattle.algebra.specs.Prime.{p}
 use Rattle.algebra.specs.Counting.{count}
-use Rattle.algebra.specs.Polynomial.{value, value2, Low, Low2}
-use Rattle.algebra.specs.Sharing.{point, Share, Pair, Of, share_of}
+use Rattle.algebra.specs.Polynomial.{value2}
+use Rattle.algebra.specs.Sharing.{Of}
 use Rattle.rules.specs.Deal.{Honest, own, or_else}
-use Rattle.rules.specs.Rounds.{Posts, mine, revealed, complaint}
+use Rattle.rules.specs.Rounds.{mine, revealed, complaint}
 use Rattle.rules.specs.Seat.{State, accepted, own_share}
 use Rattle.rules.specs.Play as play
 use Rattle.rules.specs.Play.{overall, One, Passes}
@@ -16,14 +14,14 @@ use Rattle.rules.proofs.Whole.{one_dealing_lem}
 use Rattle.nights.specs.Run.{Lasting, at, Run, held}
 use Rattle.nights.specs.Promise as nights
 use Rattle.nights.proofs.Days.{holds}
-use Rattle.courts.specs.Court.{Court, at_day, dealers_of, low_of, terms_at, seat_at, decided_at}
+use Rattle.courts.specs.Court.{dealers_of, seat_at}
 use Rattle.courts.specs.Nights.{Nights, Plays, keepers_of, begins, within, called}
 use Rattle.courts.specs.Promise.{setting, polynomial, board, goes_on, Deals, Given, Stays}
-use Rattle.courts.proofs.Sits.{Sits, sits, sitting, play_of, terms_are, seats_are}
+use Rattle.courts.proofs.Sits.{sits, sitting, play_of, terms_are, seats_are}
 use Rattle.courts.proofs.Eves.{eves, honest_first}
 use Rattle.courts.proofs.Kept.{kept_list, kept_at}
 use Rattle.courts.proofs.Apart.{plays_apart, possible, room}
-use Rattle.courts.proofs.Records.{K, real, run, base, base_is, base_exact, real_first, keeps_run, values_are, same_posts, drawn_exact}
+use Rattle.courts.proofs.Records.{run, base, base_is, base_exact, real_first, keeps_run, values_are, same_posts, drawn_exact}
 
 module _ (m : Nights) (lies : ℕ → ℕ → Bool) (lasting : Lasting (keepers_of m lies)) (plays : Plays m lies) (few : m.f ≤ 5) where
   module _ (liars : (t : ℕ) → count (3 * m.f + 1) (lies t) ≤ m.f) (t d : ℕ) (soon : t < m.many) (whole : m.calls t ≡ 6) (deals : d < dealers_of m.f t) where

@@ -1,7 +1,6 @@
 -- The run in which one dealer of each night draws other numbers: each of its dealings by itself.
-use Rattle.std.proofs.Common.{◌≡◌, ℕ, zero, suc, ◌+◌, ◌*◌, ◌%◌, ◌<◌, ◌≤◌, Bool, true, false, cond, not, ◌&&◌, ◌||◌, T, eqb, ltb, ◌≢◌, ◌⊎◌, List, [], ◌∷◌, ◌++◌, map, length, get_or, Some, None, Option, sym, refl, ap, ◌∙◌, subst, ap₂, inl, inr, ⊎_elim, true≢false, append-nil, arith, ltb-true, lt-ltb, eq-eqb, ne_eqb, eqb-true}
+use Rattle.std.proofs.Common.{◌≡◌, ℕ, zero, suc, ◌+◌, ◌*◌, ◌%◌, ◌<◌, ◌≤◌, Bool, true, false, cond, not, ◌&&◌, ◌||◌, T, eqb, ltb, ◌⊎◌, List, [], ◌∷◌, ◌++◌, map, length, get_or, Some, None, Option, sym, refl, ap, ◌∙◌, subst, ap₂, inl, inr, ⊎_elim, true≢false, append-nil, arith, ltb-true, lt-ltb, eq-eqb, ne_eqb, eqb-true}
 use mathlib.Core.Path.{fun_ext}
-use mathlib.Core.Bool.{false≢true}
 use mathlib.Core.List.{Memᴰ}
 use native.Mathlib.Decide.{ℕ_discrete}
 use Rattle.std.specs.Option.{option_to_list}
@@ -9,8 +8,8 @@ use Rattle.algebra.specs.Prime.{p}
 use Rattle.algebra.specs.Counting.{count}
 use Rattle.algebra.specs.Polynomial.{value, value2, Exact2, Low2, plus2}
 use Rattle.algebra.proofs.Coefficients.{exact_plus2}
-use Rattle.rules.specs.Deal.{Keeper, Honest, own, or_else}
-use Rattle.rules.specs.Rounds.{Said, Posts, words_by}
+use Rattle.rules.specs.Deal.{Keeper, Honest, own}
+use Rattle.rules.specs.Rounds.{words_by}
 use Rattle.rules.specs.Wire.{small, wire, when}
 use Rattle.rules.specs.Seat.{State, accepted, mail_to}
 use Rattle.rules.specs.Play as play

@@ -1,5 +1,5 @@
 -- All courts that keep the rules see the same: who has finished, and whether a night is over.
-use Rattle.std.proofs.Common.{◌≡◌, ℕ, zero, suc, ◌+◌, ◌*◌, ◌<◌, ◌≤◌, Bool, true, false, cond, not, ◌&&◌, ◌||◌, T, eqb, ltb, leb, List, [], ◌∷◌, get_or, set, replicate, Some, None, Option, sym, refl, ap, ◌∙◌, subst, ap₂, arith}
+use Rattle.std.proofs.Common.{◌≡◌, ℕ, zero, suc, ◌+◌, ◌*◌, ◌<◌, ◌≤◌, Bool, true, false, cond, not, ◌&&◌, T, eqb, ltb, leb, List, [], ◌∷◌, get_or, set, replicate, Some, None, Option, sym, refl, ap, ◌∙◌, subst, ap₂, arith}
 use mathlib.Core.List.{foldl}
 use native.Mathlib.Decide.{ℕ_discrete}
 use Rattle.algebra.specs.Counting.{count}
@@ -7,16 +7,16 @@ use Rattle.rules.specs.Deal.{Group, size, away, Sound, Honest}
 use Rattle.rules.specs.Rounds.{Said}
 use Rattle.rules.specs.Message.{Message, Share, Told, Complaint, Reveal, Fine, Finished, Value}
 use Rattle.rules.specs.Wire.{parse}
-use Rattle.rules.specs.Seat.{State, unless}
+use Rattle.rules.specs.Seat.{unless}
 use Rattle.rules.specs.Play as play
 use Rattle.rules.specs.Play.{board_of}
 use Rattle.rules.proofs.Dealt.{honest_if}
 use Rattle.nights.specs.Run.{Lasting, at}
-use Rattle.courts.specs.Court.{Court, at_day, Chance, Round, low_of, outcome, of_read, read_by, mail_heard, board_posted, seat_posted, settled, with_seat, with_finished, finished_refusal, is_over}
+use Rattle.courts.specs.Court.{Court, at_day, Chance, low_of, outcome, of_read, read_by, mail_heard, board_posted, with_finished, finished_refusal, is_over}
 use Rattle.courts.specs.Nights.{Nights, Called, keepers_of, step, comes, fed, during, begins, within, called}
-use Rattle.courts.proofs.Routing.{line_same, fed_same}
+use Rattle.courts.proofs.Routing.{line_same}
 use Rattle.courts.proofs.Calls.{call_early, call_last}
-use Rattle.courts.proofs.Sits.{Sits, sits, sits_call, start_is}
+use Rattle.courts.proofs.Sits.{sits, sits_call, start_is}
 use Rattle.courts.proofs.Eves.{Here, here}
 
 -- who has finished, after one line of the board in round r of night t

@@ -1,30 +1,25 @@
 -- What happened in the nights, as records: the dealings of nights that were over, and what the courts then hold.
-use Rattle.std.proofs.Common.{◌≡◌, ℕ, zero, suc, ◌+◌, ◌*◌, ◌%◌, ◌<◌, ◌≤◌, Bool, true, false, cond, not, ◌&&◌, ◌||◌, T, eqb, ltb, leb, ◌⊎◌, List, [], ◌∷◌, map, length, get_or, replicate, Some, None, Option, sym, refl, ap, ◌∙◌, subst, ap₂, inl, inr, true≢false, mod-lt, mod-eq_of_lt, arith, ltb-true, le-ltb, lt-ltb, eq-eqb, ne_eqb, eqb-true}
+use Rattle.std.proofs.Common.{◌≡◌, ℕ, zero, suc, ◌+◌, ◌*◌, ◌%◌, ◌<◌, ◌≤◌, Bool, true, false, cond, not, ◌&&◌, ◌||◌, eqb, ltb, List, map, length, get_or, replicate, Some, None, Option, sym, refl, ap, ◌∙◌, subst, ap₂, mod-eq_of_lt, arith, ltb-true, lt-ltb, ne_eqb, eqb-true}
 use mathlib.Core.Bool.{false≢true}
 use mathlib.Core.List.{Memᴰ}
-use native.Mathlib.Decide.{ℕ_discrete, dec_lt}
 use Rattle.std.specs.List.{range_with_len}
 use Rattle.std.specs.Option.{option_map}
-use Rattle.std.proofs.lemmas.List.FromFn.{get_or-map-range_with_len}
 use Rattle.algebra.specs.Prime.{p}
 use Rattle.algebra.specs.Polynomial.{value, Exact, Exact2}
 use Rattle.algebra.specs.Sharing.{point}
-use Rattle.rules.specs.Deal.{Group, Honest, Dealing, Kept, Strict, Fair, is_accepted, own, or_else}
-use Rattle.rules.specs.Rounds.{group, nothing_heard, read_off}
+use Rattle.rules.specs.Deal.{Honest, Dealing, Kept, Strict, Fair, is_accepted, own, or_else}
+use Rattle.rules.specs.Rounds.{read_off}
 use Rattle.rules.specs.Wire.{when}
-use Rattle.rules.specs.Seat as seat
-use Rattle.rules.specs.Seat.{State, accepted, decided}
+use Rattle.rules.specs.Seat.{accepted}
 use Rattle.rules.specs.Play as play
 use Rattle.rules.specs.Play.{overall, Played}
 use Rattle.rules.proofs.Sat.{plays_keep_lem, value_small}
 use Rattle.nights.specs.Run.{Keepers, Lasting, at, Run, dealers, width, Keeps, gain, held}
 use Rattle.nights.proofs.Plainly as plainly
 use Rattle.nights.proofs.Plainly.{plain}
-use Rattle.courts.specs.Court.{Court, Round, at_day, dealers_of, low_of, terms_at, seat_at, decided_at, members, gains, is_over, renewed, advanced}
-use Rattle.courts.specs.Nights.{Nights, Plays, keepers_of, step, during, begins, within, called}
-use Rattle.courts.proofs.Routing.{fed_same}
-use Rattle.courts.proofs.Calls.{call_last}
-use Rattle.courts.proofs.Sits.{Sits, sits, sitting, play_of, rows_of, seats_are, terms_are}
+use Rattle.courts.specs.Court.{dealers_of, low_of, decided_at, members, gains, renewed}
+use Rattle.courts.specs.Nights.{Nights, Plays, keepers_of, begins, within}
+use Rattle.courts.proofs.Sits.{sitting, play_of, rows_of}
 use Rattle.courts.proofs.Eves.{here, eves, honest_before}
 use Rattle.courts.proofs.Kept.{kept_last, kept_at}
 use Rattle.courts.proofs.Apart.{plays_apart, possible}

@@ -1,15 +1,15 @@
 -- Each line goes to the dealing that it names, and changes nothing in any other.
-use Rattle.std.proofs.Common.{◌≡◌, ℕ, zero, suc, ◌+◌, ◌*◌, ◌<◌, ◌≤◌, Bool, true, false, cond, not, ◌&&◌, eqb, ltb, leb, ◌≢◌, List, [], ◌∷◌, length, get_or, set, Some, None, Option, sym, refl, ap, ◌∙◌, subst, ap₂, arith, length-set, get_or-set_other, get_or-set_same, eq-eqb, ne_eqb}
+use Rattle.std.proofs.Common.{◌≡◌, ℕ, ◌+◌, ◌*◌, ◌<◌, Bool, true, false, cond, ◌&&◌, eqb, ltb, leb, ◌≢◌, List, [], ◌∷◌, length, get_or, Some, None, Option, sym, refl, ap, ◌∙◌, subst, arith, length-set, get_or-set_other, get_or-set_same, eq-eqb, ne_eqb}
 use mathlib.Core.List.{foldl}
 use native.Mathlib.Decide.{ℕ_discrete}
 use Rattle.algebra.specs.Prime.{p}
-use Rattle.rules.specs.Rounds.{Hand, Posts, nothing_heard, nothing_posted, free, told_by}
+use Rattle.rules.specs.Rounds.{Hand, Posts, nothing_heard, nothing_posted}
 use Rattle.rules.specs.Message.{Message, Share, Told, Complaint, Reveal, Fine, Finished, Value}
 use Rattle.rules.specs.Wire.{parse, by_kind, read_share, read_told, read_complaint, read_reveal, read_fine, read_finished, read_value, when, number4, number8, share_at, pair_from, small_share, small_pair}
 use Rattle.rules.specs.Seat as seat
 use Rattle.rules.specs.Seat.{Terms, State, answer, unless, known, mail_taken, board_taken, mail_noted, board_noted}
 use Rattle.rules.specs.Play as play
-use Rattle.courts.specs.Court.{Court, Line, Mail, Board, terms_at, seat_at, taken, outcome, settled, with_seat, mail_heard, board_posted, seat_posted, place_of, dealer_of, of_read, read_by, low_of, dealers_of, members, finished_refusal, with_finished}
+use Rattle.courts.specs.Court.{Court, terms_at, seat_at, outcome, settled, with_seat, mail_heard, board_posted, seat_posted, place_of, dealer_of, of_read, read_by, low_of, dealers_of, members, finished_refusal, with_finished}
 use Rattle.courts.specs.Nights.{step, comes, fed}
 
 -- the dealing that a line names

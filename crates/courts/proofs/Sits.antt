@@ -1,22 +1,22 @@
 -- A court that keeps the rules sits in each dealing of a night as a keeper does that plays this dealing alone.
-use Rattle.std.proofs.Common.{◌≡◌, ℕ, zero, suc, ◌+◌, ◌*◌, ◌<◌, ◌≤◌, Bool, true, false, cond, not, ◌&&◌, eqb, ltb, leb, ◌≢◌, List, [], ◌∷◌, map, length, get_or, set, replicate, Some, None, Option, sym, refl, ap, ◌∙◌, subst, ap₂, true≢false, arith, length-set, ltb-true, lt-ltb, eq-eqb, ne_eqb}
+use Rattle.std.proofs.Common.{◌≡◌, ℕ, zero, suc, ◌+◌, ◌*◌, ◌<◌, ◌≤◌, Bool, true, false, cond, ◌&&◌, eqb, ltb, List, [], ◌∷◌, length, get_or, set, replicate, Some, None, Option, sym, refl, ap, ◌∙◌, subst, ap₂, arith, length-set, ltb-true, lt-ltb, eq-eqb, ne_eqb}
 use mathlib.Core.Bool.{false≢true}
 use mathlib.Core.List.{foldl}
 use native.Mathlib.Decide.{ℕ_discrete}
 use lib.ListN.{get_or-replicate}
 use Rattle.algebra.specs.Prime.{p}
 use Rattle.rules.specs.Deal.{Honest}
-use Rattle.rules.specs.Rounds.{Said, Hand, Posts, nothing_heard, nothing_posted}
+use Rattle.rules.specs.Rounds.{Said, nothing_heard, nothing_posted}
 use Rattle.rules.specs.Wire.{small}
 use Rattle.rules.specs.Seat as seat
 use Rattle.rules.specs.Seat.{Terms, State, unless, seated}
 use Rattle.rules.specs.Play as play
 use Rattle.rules.proofs.Steps.{silent_lines}
 use Rattle.nights.specs.Run.{at}
-use Rattle.courts.specs.Court.{Court, Line, Chance, Round, Over, at_day, fresh, low_of, dealers_of, terms_at, seat_at, outcome, rows_from, drawn_rows, with_chance, chance_refusal, advanced, own_hand, ended, next_night, is_over, renewed}
+use Rattle.courts.specs.Court.{Court, Chance, Round, at_day, low_of, dealers_of, terms_at, seat_at, outcome, rows_from, own_hand}
 use Rattle.courts.specs.Nights.{Nights, Called, keepers_of, step, fed, during, begins, within, called}
-use Rattle.courts.proofs.Routing.{Same, fed_same, fed_seat, tagged}
-use Rattle.courts.proofs.Calls.{call_early, call_seat, end_is}
+use Rattle.courts.proofs.Routing.{fed_same, fed_seat, tagged}
+use Rattle.courts.proofs.Calls.{call_early, call_seat}
 
 -- the polynomial that keeper i draws for night t, if it deals then
 abbrev pub rows_of : Nights → (t i : ℕ) → List (List ℕ)

@@ -1,17 +1,17 @@
 -- What a court says, taken apart by the dealings that it names.
-use Rattle.std.proofs.Common.{◌≡◌, ℕ, zero, suc, ◌+◌, ◌*◌, ◌<◌, ◌≤◌, Bool, true, false, cond, not, ◌&&◌, ◌||◌, eqb, ltb, ◌≢◌, List, [], ◌∷◌, ◌++◌, map, get_or, Some, None, Option, sym, refl, ap, ◌∙◌, subst, ap₂, append-nil, arith, eq-eqb, ne_eqb}
+use Rattle.std.proofs.Common.{◌≡◌, ℕ, zero, suc, ◌<◌, ◌≤◌, Bool, true, false, cond, not, ◌||◌, eqb, List, [], ◌∷◌, ◌++◌, map, get_or, Some, None, Option, sym, refl, ap, ◌∙◌, ap₂, append-nil, arith, eq-eqb, ne_eqb}
 use mathlib.Core.List.{map-append}
 use native.Mathlib.Decide.{ℕ_discrete}
 use Rattle.std.specs.Option.{option_map, option_to_list}
 use Rattle.algebra.specs.Sharing.{pair_at, share_of}
 use Rattle.rules.specs.Rounds.{Said, words_by, mine, doubts, any, keepers, wrong}
 use Rattle.rules.specs.Message.{Message, Share, Told, Complaint, Reveal, Fine, Finished, Value}
-use Rattle.rules.specs.Wire.{wire, be4, when}
+use Rattle.rules.specs.Wire.{wire, be4}
 use Rattle.rules.specs.Seat.{Terms, State, known, mail_to, line_of, complaint_to, answer_to, judgement}
 use Rattle.rules.specs.Play as play
 use Rattle.rules.specs.Play.{collected, mail_of, board_of}
-use Rattle.courts.specs.Court.{Court, dealer_of, members, letter_to, post_at, posts_up_to}
-use Rattle.courts.proofs.Routing.{Names, when-names, none_names, cond-names, tagged, line_tag}
+use Rattle.courts.specs.Court.{Court, dealer_of, members, post_at, posts_up_to}
+use Rattle.courts.proofs.Routing.{Names, when-names, none_names, cond-names, tagged}
 use Rattle.courts.proofs.Sits.{keep}
 
 -- bytes that name a dealing

@@ -1,8 +1,7 @@
 -- A night in which what is said comes in time is over.
-use Rattle.std.proofs.Common.{◌≡◌, ℕ, zero, suc, ◌+◌, ◌*◌, ◌<◌, ◌≤◌, Bool, true, false, cond, not, ◌&&◌, T, eqb, ltb, leb, ◌≢◌, List, [], ◌∷◌, length, get_or, set, replicate, Some, None, Option, sym, refl, ap, ◌∙◌, subst, ap₂, true≢false, arith, length-set, get_or-set_same, lt-ltb, eq-eqb, ne_eqb, eqb-true, le-leb}
+use Rattle.std.proofs.Common.{◌≡◌, ℕ, zero, suc, ◌+◌, ◌*◌, ◌<◌, ◌≤◌, Bool, true, false, cond, not, ◌&&◌, T, eqb, ltb, leb, List, [], ◌∷◌, length, get_or, set, replicate, Some, None, Option, sym, refl, ap, ◌∙◌, ap₂, true≢false, arith, length-set, get_or-set_same, lt-ltb, eq-eqb, eqb-true, le-leb}
 use mathlib.Core.Bool.{false≢true}
 use mathlib.Core.List.{foldl}
-use native.Mathlib.Decide.{ℕ_discrete}
 use Rattle.algebra.specs.Counting.{count}
 use Rattle.rules.specs.Deal.{Honest}
 use Rattle.rules.specs.Rounds.{Said, words_by}
@@ -12,7 +11,7 @@ use Rattle.rules.specs.Seat.{unless}
 use Rattle.rules.proofs.Reading.{parse-wire}
 use Rattle.nights.specs.Run.{Lasting, at}
 use Rattle.courts.specs.Court.{low_of}
-use Rattle.courts.specs.Nights.{Nights, Called, Born, Plays, keepers_of, posts}
+use Rattle.courts.specs.Nights.{Nights, Called, Born, keepers_of, posts}
 use Rattle.courts.proofs.Public.{ended, marked, mark, finished_at, over_at}
 use Rattle.courts.proofs.Apart.{last_posts}
 

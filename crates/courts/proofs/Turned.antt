@@ -1,9 +1,7 @@
 -- Lines of one dealing changed in their places, among those of all dealings.
-use Rattle.std.proofs.Common.{◌≡◌, ℕ, zero, suc, ◌+◌, ◌*◌, ◌<◌, ◌≤◌, Bool, true, false, cond, not, ◌&&◌, eqb, ltb, ◌≢◌, List, [], ◌∷◌, ◌++◌, map, get_or, Some, None, Option, sym, refl, ap, ◌∙◌, subst, ap₂, true≢false, arith, eq-eqb, ne_eqb, eqb-true}
-use mathlib.Core.Bool.{false≢true}
+use Rattle.std.proofs.Common.{◌≡◌, ℕ, zero, suc, ◌+◌, ◌*◌, ◌<◌, ◌≤◌, Bool, true, false, cond, not, ◌&&◌, eqb, ltb, ◌≢◌, List, [], ◌∷◌, ◌++◌, map, get_or, Some, None, Option, sym, refl, ap, ◌∙◌, ap₂, arith, eq-eqb, ne_eqb, eqb-true}
 use mathlib.Core.List.{map-append}
 use native.Mathlib.Decide.{ℕ_discrete}
-use borrow.Author.Tests.{eqb-false}
 use Rattle.algebra.specs.Prime.{p}
 use Rattle.algebra.specs.Sharing.{pair_at, share_of}
 use Rattle.rules.specs.Deal.{or_else}
@@ -13,9 +11,9 @@ use Rattle.rules.specs.Wire.{wire}
 use Rattle.rules.specs.Play as play
 use Rattle.rules.specs.Play.{collected}
 use Rattle.rules.proofs.Retouch.{to_each}
-use Rattle.rules.proofs.Retold.{new_word, resay, reline}
+use Rattle.rules.proofs.Retold.{resay, reline}
 use Rattle.courts.specs.Court.{Court, members, post_at, posts_up_to}
-use Rattle.courts.proofs.Routing.{Names, tagged, line_tag}
+use Rattle.courts.proofs.Routing.{Names, tagged}
 use Rattle.courts.proofs.Tags.{of_tag, wire_tag}
 
 -- only words about dealing w

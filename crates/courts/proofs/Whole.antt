@@ -1,5 +1,5 @@
 -- The theorem.
-use Rattle.std.proofs.Common.{◌≡◌, ℕ, suc, ◌+◌, ◌%◌, ◌<◌, ◌≤◌, Bool, List, subst}
+use Rattle.std.proofs.Common.{◌≡◌, ℕ, ◌+◌, ◌%◌, ◌<◌, ◌≤◌, Bool, List, subst}
 use mathlib.Core.List.{Memᴰ}
 use Rattle.algebra.specs.Prime.{p}
 use Rattle.algebra.specs.Polynomial.{value2}

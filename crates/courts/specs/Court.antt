@@ -1,12 +1,12 @@
 -- A court: one keeper through all nights. What it holds, which lines it takes and what they change, and what it says.
-use Rattle.std.specs.Prelude.{◌≡◌, ℕ, zero, suc, ◌+◌, ◌-◌, ◌*◌, ◌%◌, Bool, true, false, cond, not, ◌&&◌, ◌||◌, List, [], ◌∷◌, ◌++◌, map, length, get_or, take, drop, replicate, Some, None, Option, ◌==◌, nat_le, nat_lt, slice_index_or, slice_set}
+use Rattle.std.specs.Prelude.{ℕ, zero, suc, ◌+◌, ◌-◌, ◌*◌, ◌%◌, Bool, true, false, cond, not, ◌&&◌, List, [], ◌∷◌, ◌++◌, map, length, get_or, take, drop, replicate, Some, None, Option, ◌==◌, nat_le, nat_lt, slice_index_or, slice_set}
 use Rattle.std.specs.List.{range_with_len}
 use Rattle.std.specs.Option.{option_map, option_to_list}
 use Rattle.algebra.specs.Prime.{p}
 use Rattle.algebra.specs.Counting.{count}
 use Rattle.algebra.specs.Sharing.{point, share_of}
 use Rattle.rules.specs.Deal.{or_else}
-use Rattle.rules.specs.Rounds.{Setting, Hand, Posts, nothing_heard, nothing_posted, free}
+use Rattle.rules.specs.Rounds.{Hand, Posts, nothing_heard, nothing_posted, free}
 use Rattle.rules.specs.Message.{Message, Share, Told, Complaint, Reveal, Fine, Finished, Value}
 use Rattle.rules.specs.Wire.{parse, small, when}
 use Rattle.rules.specs.Play.{collected}

@@ -1,6 +1,5 @@
 -- All nights of 3 f + 1 courts: what comes to each, what its court makes of it, and what it means to keep the rules.
 use Rattle.std.specs.Prelude.{◌≡◌, ℕ, zero, suc, ◌+◌, ◌*◌, ◌<◌, ◌≤◌, Bool, true, List, [], ◌∷◌, ◌++◌, map, length, None, ◌≢◌}
-use mathlib.Core.List.{foldl}
 use Rattle.algebra.specs.Prime.{p}
 use Rattle.rules.specs.Deal.{Honest}
 use Rattle.rules.specs.Rounds.{Said, words_by}

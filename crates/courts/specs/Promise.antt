@@ -1,5 +1,5 @@
 -- What is promised of courts through all nights. Each is a type; a proof of the type is the theorem.
-use Rattle.std.specs.Prelude.{◌≡◌, ℕ, zero, suc, ◌+◌, ◌*◌, ◌%◌, ◌<◌, ◌≤◌, Bool, true, false, T, ◌⊎◌, List, [], ◌∷◌, ◌++◌, length, Some, None, ◌≢◌, slice_index_or}
+use Rattle.std.specs.Prelude.{◌≡◌, ℕ, suc, ◌+◌, ◌*◌, ◌%◌, ◌<◌, ◌≤◌, Bool, true, false, T, ◌⊎◌, List, ◌++◌, length, Some, None, ◌≢◌, slice_index_or}
 use mathlib.Core.List.{Memᴰ}
 use Rattle.algebra.specs.Prime.{p}
 use Rattle.algebra.specs.Counting.{count}
@@ -13,7 +13,7 @@ use Rattle.rules.specs.Play as play
 use Rattle.rules.specs.Play.{mail_of}
 use Rattle.nights.specs.Run.{at, Spied}
 use Rattle.nights.specs.Promise.{Misses}
-use Rattle.courts.specs.Court.{Court, low_of, dealers_of, terms_at, seat_at, rows_from, is_over}
+use Rattle.courts.specs.Court.{low_of, dealers_of, terms_at, seat_at, rows_from, is_over}
 use Rattle.courts.specs.Nights.{Nights, Born, Plays, keepers_of, fed, begins, within, called, posts}
 
 -- dealing d of night t: its lengths, and the polynomial that its dealer draws

@@ -1,5 +1,5 @@
 -- Loops over the keepers: a test that passes for some, for every one, or for so many.
-use Rattle.std.proofs.Common.{◌≡◌, ℕ, zero, suc, ◌+◌, ◌<◌, ◌≤◌, Bool, true, false, cond, sym, refl, ap, ◌∙◌, add-one, arith}
+use Rattle.std.proofs.Common.{◌≡◌, ℕ, zero, suc, ◌+◌, ◌<◌, ◌≤◌, Bool, true, false, cond, refl, add-one, arith}
 use Rattle.std.proofs.lemmas.Bool.{or_from, and_from, both_ways}
 use Rattle.std.proofs.lemmas.Bool.Decides.{Decides-below_or, Decides-below_and}
 use Rattle.algebra.specs.Counting.{count}

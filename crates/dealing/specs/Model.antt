@@ -1,5 +1,5 @@
 -- What the program holds, as the rules speak of it.
-use Rattle.std.specs.Prelude.{◌≡◌, ℕ, List, map, Some, None, Option}
+use Rattle.std.specs.Prelude.{◌≡◌, ℕ, map, Some, None, Option}
 use Rattle.std.specs.Option.{option_map}
 use Rattle.algebra.specs.Prime.{p}
 use Rattle.polynomial.specs.Lists.{held, said, rows_of}

@@ -1,5 +1,5 @@
 -- Euclid's algorithm for an inverse modulo p, with factors that never pass p.
-use Rattle.std.proofs.Common.{◌≡◌, ℕ, zero, suc, ◌+◌, ◌-◌, ◌*◌, ◌/◌, ◌%◌, ◌<◌, ◌≤◌, Bool, true, false, not, ◌≢◌, ap, mul-le-mul_right, mod-lt, mod-eq_of_lt, mul-le-mul_left, arith}
+use Rattle.std.proofs.Common.{◌≡◌, ℕ, zero, suc, ◌+◌, ◌-◌, ◌*◌, ◌/◌, ◌%◌, ◌<◌, ◌≤◌, Bool, true, false, not, ◌≢◌, ap, mul-le-mul_right, mod-lt, mul-le-mul_left, arith}
 use native.Mathlib.Nat.{div-add-mod}
 use Rattle.algebra.specs.Prime.{p}
 use Rattle.algebra.proofs.Same.{Same, rest, whole, so, ◌⊞◌, ◌⊟◌, ◌⊠◌}

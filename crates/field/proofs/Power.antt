@@ -1,8 +1,8 @@
 -- Powers modulo p by squares.
-use Rattle.std.proofs.Common.{◌≡◌, ℕ, zero, suc, ◌+◌, ◌*◌, ◌/◌, ◌%◌, ◌^◌, sym, refl, ap, ◌∙◌, pow-suc, arith, pow-add}
+use Rattle.std.proofs.Common.{◌≡◌, ℕ, zero, suc, ◌+◌, ◌*◌, ◌/◌, ◌%◌, ◌^◌, sym, ap, ◌∙◌, pow-suc, arith, pow-add}
 use native.Mathlib.Nat.{pow-zero}
 use Rattle.algebra.specs.Prime.{p}
-use Rattle.algebra.proofs.Same.{Same, back, equal, so, ◌⊞◌, ◌⊟◌, ◌⊠◌}
+use Rattle.algebra.proofs.Same.{Same, back, equal, so, ◌⊞◌, ◌⊠◌}
 
 pow_same : {x y : ℕ} → Same p x y → (k : ℕ) → Same p (x ^ k) (y ^ k)
 pow_same {x} {y} s zero = equal (pow-zero x ∙ sym (pow-zero y))

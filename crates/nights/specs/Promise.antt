@@ -1,10 +1,10 @@
 -- What is promised. Each is a type; a proof of the type is the theorem.
-use Rattle.std.specs.Prelude.{◌≡◌, ℕ, ◌+◌, ◌%◌, ◌<◌, ◌≤◌, Bool, true, T, List, [], ◌∷◌, length, Some, None}
+use Rattle.std.specs.Prelude.{◌≡◌, ℕ, ◌+◌, ◌%◌, ◌<◌, ◌≤◌, Bool, true, T, List, length, Some, None}
 use mathlib.Core.List.{Memᴰ}
-use Rattle.algebra.specs.Polynomial.{value, value2, Low, Low2, Exact2, plus2}
+use Rattle.algebra.specs.Polynomial.{value, value2, Low, Low2, Exact2}
 use Rattle.algebra.specs.Counting.{Distinct}
-use Rattle.algebra.specs.Sharing.{point, Share, Of, share_of, Pair, swap, pair_at}
-use Rattle.rules.specs.Deal.{Group, size, Sound, Honest, Kept, Strict, Fair, is_accepted, own, Keeper}
+use Rattle.algebra.specs.Sharing.{point, Of, share_of, Pair, swap, pair_at}
+use Rattle.rules.specs.Deal.{Group, size, Sound, Honest, is_accepted, own, Keeper}
 use Rattle.rules.specs.Rounds.{words_by}
 use Rattle.nights.specs.Nights.{Nights, Plays, run_of, SeenNights}
 use Rattle.nights.specs.Run.{Keepers, at, Lasting, Run, dealers, width, Keeps, held, Spied, OneDay, Seen, Moved}

@@ -1,7 +1,7 @@
 -- What is left of a polynomial in two unknowns with one set, row by row.
-use Rattle.std.proofs.Common.{◌≡◌, ℕ, zero, suc, ◌+◌, ◌-◌, ◌*◌, ◌%◌, ◌<◌, ◌≤◌, List, [], ◌∷◌, map, length, get_or, take, drop, set, sym, refl, ap, ◌∙◌, suc-mul, zero-mul, arith, length-set, length-take, drop-cons}
+use Rattle.std.proofs.Common.{◌≡◌, ℕ, zero, suc, ◌+◌, ◌-◌, ◌*◌, ◌<◌, ◌≤◌, List, [], ◌∷◌, map, length, get_or, take, drop, set, sym, refl, ap, ◌∙◌, suc-mul, zero-mul, arith, length-set, length-take, drop-cons}
 use mathlib.Core.List.{Memᴰ}
-use Rattle.std.proofs.lemmas.List.{get_or-map, length-map, take-map, drop-map, get_or-take, get_or-drop, drop-drop, drop_all, ext_get_or}
+use Rattle.std.proofs.lemmas.List.{get_or-map, length-map, take-map, drop-map, get_or-take, drop-drop, drop_all, ext_get_or}
 use Rattle.algebra.specs.Polynomial.{value, plus, times, set_first, set_second, Exact, Exact2}
 use Rattle.algebra.specs.Prime.{p}
 use Rattle.field.specs.declared.element.Element.{Element}

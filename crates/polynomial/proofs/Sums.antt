@@ -1,5 +1,5 @@
 -- Sums and multiples, place by place.
-use Rattle.std.proofs.Common.{◌≡◌, ℕ, zero, suc, ◌+◌, ◌*◌, ◌%◌, ◌<◌, ◌≤◌, max, List, [], ◌∷◌, length, get_or, take, drop, set, sym, refl, ap, ◌∙◌, mod-eq_of_lt, mul-zero, zero-mul, arith, length-drop, length-set}
+use Rattle.std.proofs.Common.{◌≡◌, ℕ, zero, suc, ◌+◌, ◌*◌, ◌%◌, ◌<◌, ◌≤◌, max, List, [], ◌∷◌, length, get_or, take, drop, set, sym, refl, ap, ◌∙◌, mod-eq_of_lt, mul-zero, arith, length-drop, length-set}
 use native.Mathlib.Decide.{dec_le}
 use native.Mathlib.Nat.{zero-mod}
 use Rattle.std.proofs.lemmas.List.{take-map, drop-map, get_or-take, get_or-drop}
@@ -8,7 +8,7 @@ use Rattle.algebra.specs.Prime.{p}
 use Rattle.algebra.proofs.Coefficients.{length-plus, length-times}
 use Rattle.field.specs.declared.element.Element.{Element}
 use Rattle.polynomial.specs.Numbers.{numbers, Clean}
-use Rattle.polynomial.proofs.Places.{number_small, number_read, number_past, front_same, front_is, length_front, write_more, clean_set, length-numbers}
+use Rattle.polynomial.proofs.Places.{number_small, number_read, number_past, front_same, front_is, length_front, write_more, clean_set}
 
 pub plus_at : (xs ys : List Element) (k : ℕ) → get_or (plus p (numbers xs) (numbers ys)) k 0 ≡ (get_or (numbers xs) k 0 + get_or (numbers ys) k 0) % p
 unfolding plus

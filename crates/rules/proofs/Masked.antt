@@ -1,15 +1,15 @@
 -- The secret of an honest dealer's dealing is hidden from any f: what is added is 0 wherever they look, and 1 at 0.
-use Rattle.std.proofs.Common.{◌≡◌, ℕ, suc, ◌+◌, ◌*◌, ◌%◌, ◌<◌, ◌≤◌, T, List, length, sym, refl, ap, ◌∙◌, mod-eq_of_lt, arith}
+use Rattle.std.proofs.Common.{◌≡◌, ℕ, ◌+◌, ◌*◌, ◌%◌, ◌<◌, ◌≤◌, List, length, ◌∙◌, mod-eq_of_lt, arith}
 use mathlib.Core.List.{Memᴰ}
 use native.Mathlib.Nat.{zero-mod}
 use Rattle.algebra.specs.Polynomial.{value2, Low2, plus2, times2, outer}
 use Rattle.algebra.specs.Sharing.{point}
-use Rattle.algebra.proofs.Same.{Same, rest, back, equal, so, ◌⊞◌, ◌⊟◌, ◌⊠◌}
+use Rattle.algebra.proofs.Same.{Same, rest, back, so, ◌⊞◌, ◌⊟◌, ◌⊠◌}
 use Rattle.algebra.proofs.Evaluation.{eval}
 use Rattle.algebra.proofs.Rows.{eval2, value2_is}
 use Rattle.algebra.proofs.Mask.{vanishing, Vanishes}
 use Rattle.algebra.proofs.Coefficients.{plus2_is, times2_is, outer_is, low_outer, low_times2}
-use Rattle.rules.specs.Deal.{Group, Sound, Keeper, Dealing, Kept, Strict, Fair, SeenDeal}
+use Rattle.rules.specs.Deal.{Group, Sound, Keeper}
 use Rattle.rules.specs.Promise.{HidesSecret}
 use Rattle.rules.proofs.Unseen.{hides_dealing_lem}
 

@@ -1,12 +1,11 @@
 -- There are runs in which honest keepers follow the rules, whatever the liars say.
-use Rattle.std.proofs.Common.{◌≡◌, ℕ, zero, suc, ◌+◌, ◌<◌, ◌≤◌, Bool, true, false, cond, not, T, eqb, List, [], ◌∷◌, ◌++◌, sym, refl, ap, ◌∙◌, subst, ap₂, true≢false, append-nil, arith, eq-eqb, ne_eqb}
+use Rattle.std.proofs.Common.{◌≡◌, ℕ, zero, suc, ◌<◌, ◌≤◌, Bool, true, false, cond, not, T, eqb, List, [], ◌∷◌, ◌++◌, sym, refl, ap, ◌∙◌, subst, ap₂, true≢false, append-nil, arith, eq-eqb, ne_eqb}
 use mathlib.Core.Bool.{false≢true}
-use mathlib.Core.List.{foldl}
 use native.Mathlib.Decide.{ℕ_discrete}
 use Rattle.algebra.specs.Sharing.{Share}
 use Rattle.rules.specs.Deal.{Honest}
-use Rattle.rules.specs.Rounds.{Setting, keepers, group, Letter, Post, Deal, Fine, Said, Hand, Posts, Lines, nothing_heard, nothing_posted, heard, posted, hand, board, mine, tells_to, complaints_of, answers_of, all_fits, words_by, Follows, Quiet}
-use Rattle.rules.specs.Course.{left, by, spoken, quiet, mail1, hand1, mail2, hand2, board3, posts3, board4, board5, mails, boards, run}
+use Rattle.rules.specs.Rounds.{Setting, keepers, group, Deal, Said, Lines, hand, board, tells_to, answers_of, words_by, Follows, Quiet}
+use Rattle.rules.specs.Course.{left, by, spoken, hand1, posts3, mails, boards, run}
 use Rattle.rules.specs.Promise.{CanFollow}
 
 pub words_append : {W : Type 0} (i : ℕ) (l k : List (Said W)) → words_by i (l ++ k) ≡ words_by i l ++ words_by i k

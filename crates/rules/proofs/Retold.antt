@@ -1,10 +1,10 @@
 -- One dealing, played with bytes, with other numbers drawn: the same lines but for honest keepers' private words, and the spied see no difference.
-use Rattle.std.proofs.Common.{◌≡◌, ℕ, zero, suc, ◌+◌, ◌-◌, ◌*◌, ◌<◌, ◌≤◌, Bool, true, false, cond, not, ◌&&◌, ◌||◌, T, eqb, ltb, ◌⊎◌, List, [], ◌∷◌, ◌++◌, map, Some, None, Option, sym, refl, ap, ◌∙◌, subst, ap₂, inl, inr, ⊎_elim, true≢false, arith, ltb-true, lt-ltb, eq-eqb, ne_eqb, eqb-true}
+use Rattle.std.proofs.Common.{◌≡◌, ℕ, zero, suc, ◌+◌, ◌*◌, ◌<◌, ◌≤◌, Bool, true, false, cond, not, ◌&&◌, ◌||◌, T, eqb, ltb, ◌⊎◌, List, [], ◌∷◌, ◌++◌, map, Some, None, Option, sym, refl, ap, ◌∙◌, subst, ap₂, inl, inr, ⊎_elim, true≢false, arith, ltb-true, lt-ltb, eq-eqb, ne_eqb, eqb-true}
 use mathlib.Core.Path.{fun_ext}
 use mathlib.Core.Bool.{false≢true}
 use mathlib.Core.List.Memᴰ
 use mathlib.Core.List.{foldl, Memᴰ}
-use native.Mathlib.Decide.{ℕ_discrete, dec_lt}
+use native.Mathlib.Decide.{ℕ_discrete}
 use Rattle.std.specs.Option.{option_map, option_to_list}
 use Rattle.algebra.specs.Prime.{p}
 use Rattle.algebra.specs.Counting.{count}
@@ -13,17 +13,17 @@ use Rattle.algebra.specs.Sharing as sharing
 use Rattle.algebra.specs.Sharing.{pair_at, share_of}
 use Rattle.algebra.proofs.Coefficients.{exact_plus2}
 use Rattle.algebra.proofs.Stated.{shares}
-use Rattle.rules.specs.Deal.{Group, Sound, Keeper, Honest, Dealing, or_else}
+use Rattle.rules.specs.Deal.{Group, Sound, Keeper, Honest, or_else}
 use Rattle.rules.specs.Rounds as rounds
 use Rattle.rules.specs.Rounds.{Setting, keepers, group, Said, Letter, Post, Hand, Posts, Lines, hand, board, posted, mine, doubts, any, wrong, all_fits, words_by, read_off}
 use Rattle.rules.specs.Message.{Message, Share, Told, Complaint, Reveal, Fine, Finished, Value}
 use Rattle.rules.specs.Wire.{wire, when, Fit, InRange}
 use Rattle.rules.specs.Seat.{Terms, State, known, read_by, called, mail_to, line_of}
-use Rattle.rules.specs.Play.{Line, Mail, Board, Sitting, setting_of, terms_of, Possible, Play, Plays, after, at_call, sends, posts, collected, mail_of, board_of}
+use Rattle.rules.specs.Play.{Line, Mail, Board, Sitting, setting_of, terms_of, Possible, Play, Plays, at_call, sends, posts, collected, mail_of, board_of}
 use Rattle.rules.specs.Promise.{Unseen, HidesBytes}
-use Rattle.rules.proofs.Steps.{about, letter, word, letters, words}
+use Rattle.rules.proofs.Steps.{about, letter, letters, words}
 use Rattle.rules.proofs.Reading.{parse-wire}
-use Rattle.rules.proofs.Retouch.{to_each, to_each_one, to_each_none, to_each_same, retouch, words_retouch, retouch_same}
+use Rattle.rules.proofs.Retouch.{to_each, to_each_none, to_each_same, retouch, words_retouch, retouch_same}
 use Rattle.rules.proofs.Reworded.{reword, reworded}
 use Rattle.rules.proofs.Reworded as reworded
 use Rattle.rules.proofs.Sat as sat

@@ -1,5 +1,5 @@
 -- A dealing that is played with bytes is one of words: what is read off the seats keeps the rules.
-use Rattle.std.proofs.Common.{◌≡◌, ℕ, zero, suc, ◌+◌, ◌*◌, ◌^◌, ◌<◌, ◌≤◌, Bool, true, false, cond, not, ◌&&◌, ◌||◌, eqb, ltb, List, [], ◌∷◌, ◌++◌, map, Some, None, Option, sym, refl, ap, ◌∙◌, subst, ap₂, append_assoc, append-nil, mod-lt, arith, lt-ltb, eq-eqb, ne_eqb}
+use Rattle.std.proofs.Common.{◌≡◌, ℕ, zero, suc, ◌+◌, ◌*◌, ◌<◌, ◌≤◌, Bool, true, false, cond, eqb, List, [], ◌∷◌, ◌++◌, map, Some, None, Option, sym, refl, ap, ◌∙◌, subst, ap₂, append_assoc, append-nil, mod-lt, arith, lt-ltb, eq-eqb, ne_eqb}
 use mathlib.Core.Path.{fun_ext}
 use mathlib.Core.List.{foldl, map-append}
 use native.Mathlib.Decide.{ℕ_discrete}
@@ -13,9 +13,9 @@ use Rattle.rules.specs.Deal.{Keeper, Honest, Kept, Strict, Fair, own, or_else}
 use Rattle.rules.specs.Rounds as rounds
 use Rattle.rules.specs.Rounds.{Setting, keepers, group, Said, Letter, Post, Hand, Posts, Lines, nothing_heard, nothing_posted, heard, posted, hand, board, free, mine, doubts, any, wrong, gather, complaints_of, answers_of, all_fits, tells_to, words_by, Follows, Deals, read_off, revealed}
 use Rattle.rules.specs.Message.{Message, Share, Told, Complaint, Reveal, Fine, Finished, Value}
-use Rattle.rules.specs.Wire.{wire, parse, when, Fit, InRange}
-use Rattle.rules.specs.Seat.{Terms, State, known, read_by, called, mail_to, line_of, accepted}
-use Rattle.rules.specs.Play.{Line, Sitting, setting_of, terms_of, Possible, Play, Plays, after, at_call, sends, posts, collected, taken, mail_of, board_of, overall, Played}
+use Rattle.rules.specs.Wire.{wire, when, Fit, InRange}
+use Rattle.rules.specs.Seat.{Terms, State, read_by, called, mail_to, line_of, accepted}
+use Rattle.rules.specs.Play.{Sitting, setting_of, terms_of, Possible, Play, Plays, after, at_call, collected, taken, mail_of, board_of, overall}
 use Rattle.rules.specs.Promise.{PlaysKeep}
 use Rattle.rules.proofs.Keeping.{keeps_rules_lem, deals_fairly_lem}
 use Rattle.rules.proofs.Playing.{words_append}

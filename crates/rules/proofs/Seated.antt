@@ -1,5 +1,5 @@
 -- There are plays in which those that keep the rules run their seats, whatever liars send.
-use Rattle.std.proofs.Common.{◌≡◌, ℕ, zero, suc, ◌+◌, ◌*◌, ◌<◌, Bool, true, false, cond, T, eqb, List, [], ◌∷◌, ◌++◌, map, Some, None, Option, sym, refl, ap, ◌∙◌, ap₂, append-nil}
+use Rattle.std.proofs.Common.{◌≡◌, ℕ, zero, suc, ◌+◌, ◌*◌, Bool, true, false, cond, T, eqb, List, [], ◌∷◌, map, None, Option, sym, refl, ap, ◌∙◌}
 use mathlib.Core.List.{foldl}
 use Rattle.std.specs.Option.{option_to_list}
 use Rattle.rules.specs.Deal.{Honest}
@@ -7,7 +7,7 @@ use Rattle.rules.specs.Rounds.{Said, group, words_by}
 use Rattle.rules.specs.Course.{spoken}
 use Rattle.rules.specs.Wire.{wire}
 use Rattle.rules.specs.Seat.{State, mail_to, line_of, called, seated}
-use Rattle.rules.specs.Play.{Line, Mail, Board, taken, mail_of, board_of, Sitting, setting_of, terms_of, Play, Plays, after, sends, posts, collected}
+use Rattle.rules.specs.Play.{Line, Mail, Board, taken, mail_of, board_of, Sitting, setting_of, terms_of, Play, Plays, after, collected}
 use Rattle.rules.specs.Promise.{CanPlay}
 use Rattle.rules.proofs.Playing.{spoken_honest, spoken_liar}
 

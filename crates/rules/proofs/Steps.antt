@@ -1,12 +1,11 @@
 -- What a seat makes of a line: the words that the line is, if it is any, are heard or posted.
-use Rattle.std.proofs.Common.{◌≡◌, ℕ, Bool, true, false, cond, not, ◌&&◌, eqb, ltb, List, [], ◌∷◌, ◌++◌, Some, None, Option, sym, refl, ap, ◌∙◌, subst, eq-eqb, ne_eqb}
+use Rattle.std.proofs.Common.{◌≡◌, ℕ, Bool, true, false, cond, not, ◌&&◌, eqb, List, [], ◌∷◌, ◌++◌, Some, None, Option, sym, refl, ap, ◌∙◌, subst, eq-eqb, ne_eqb}
 use mathlib.Core.List.{foldl}
 use native.Mathlib.Decide.{ℕ_discrete}
-use Rattle.algebra.specs.Sharing as sharing
 use Rattle.rules.specs.Rounds as rounds
 use Rattle.rules.specs.Rounds.{Setting, Said, Letter, Post, Hand, Posts, heard, posted, heard_it, posted_it, free, complaint, revealed, said_fine, complained, told_by}
 use Rattle.rules.specs.Message.{Message, Share, Told, Complaint, Reveal, Fine, Finished, Value}
-use Rattle.rules.specs.Seat.{Terms, State, unless, answer, known, mail_refusal, board_refusal, mail_noted, board_noted, mail_taken, board_taken, mail_bytes, board_bytes, of_read, read_by, heard_by, posted_by}
+use Rattle.rules.specs.Seat.{Terms, State, unless, answer, known, mail_taken, board_taken, mail_bytes, board_bytes, of_read, read_by, posted_by}
 use Rattle.rules.specs.Play.{Line, Mail, Board, taken, mail_of, board_of}
 
 -- the letter that a message is, and the word that a line of the board is; or nothing

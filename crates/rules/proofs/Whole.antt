@@ -1,5 +1,5 @@
 -- One dealing, played with bytes: what the rules promise holds of the seats.
-use Rattle.std.proofs.Common.{◌≡◌, ℕ, zero, suc, ◌+◌, ◌*◌, ◌<◌, ◌≤◌, Bool, true, false, cond, not, ◌||◌, T, List, Some, None, sym, refl, ap, ◌∙◌, subst, arith}
+use Rattle.std.proofs.Common.{◌≡◌, ℕ, zero, suc, ◌+◌, ◌*◌, ◌≤◌, Bool, true, false, not, ◌||◌, T, List, Some, refl, ap, ◌∙◌, subst, arith}
 use Rattle.algebra.specs.Prime.{p}
 use Rattle.algebra.specs.Counting.{count}
 use Rattle.algebra.specs.Polynomial.{value, value2, Exact2}

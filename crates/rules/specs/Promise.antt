@@ -1,5 +1,5 @@
 -- What is promised of one dealing. Each is a type; a proof of the type is the theorem.
-use Rattle.std.specs.Prelude.{◌≡◌, ℕ, ◌+◌, ◌*◌, ◌%◌, ◌<◌, ◌≤◌, Bool, true, T, List, [], ◌∷◌, length, Some, None, Option}
+use Rattle.std.specs.Prelude.{◌≡◌, ℕ, ◌+◌, ◌*◌, ◌%◌, ◌≤◌, Bool, true, T, List, [], ◌∷◌, length, Some, None, Option}
 use mathlib.Core.List.{Memᴰ}
 use Rattle.algebra.specs.Prime.{p}
 use Rattle.algebra.specs.Counting.{count}

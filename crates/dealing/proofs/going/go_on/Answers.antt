@@ -1,4 +1,4 @@
-use Rattle.std.proofs.Common.{◌+◌, sym, ◌∙◌, subst, arith}
+use Rattle.std.proofs.Common.{◌+◌, sym, subst, arith}
 use Rattle.polynomial.specs.Lists.{held}
 use Rattle.dealing.proofs.Goes.{taken, left, Below, Above}
 use Rattle.dealing.proofs.going.go_on.Goals as goal

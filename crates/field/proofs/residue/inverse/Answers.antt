@@ -1,5 +1,5 @@
 use Rattle.std.proofs.Common.{mul-le-mul_right, arith}
-use Rattle.field.proofs.Euclid.{Step, start, turn, bound, found, found_negated}
+use Rattle.field.proofs.Euclid.{start, turn, bound, found, found_negated}
 use Rattle.field.proofs.residue.inverse.Goals as goal
 
 pub loop-left-init : goal.loop-left-init

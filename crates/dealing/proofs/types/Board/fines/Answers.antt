@@ -1,4 +1,4 @@
-use Rattle.std.proofs.Common.{sym, ap, ◌∙◌, arith, rules}
+use Rattle.std.proofs.Common.{sym, ◌∙◌, arith, rules}
 use Rattle.dealing.proofs.Loops.{count_none, count_yes, count_no, count_bound}
 use Rattle.dealing.proofs.types.Board.fines.Goals as goal
 use Rattle.dealing.proofs.types.Board.fines.Goals.{then-fine, else-fine}

@@ -1,4 +1,4 @@
-use Rattle.std.proofs.Common.{Some, ap}
+use Rattle.std.proofs.Common.{Some}
 use Rattle.std.specs.Option.{option_map}
 use Rattle.polynomial.specs.Lists.{said}
 use Rattle.rules.specs.Rounds.{Posts}

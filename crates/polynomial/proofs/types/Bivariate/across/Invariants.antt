@@ -1,4 +1,4 @@
-use Rattle.std.proofs.Common.{◌≡◌, ℕ, ◌<◌, map, length, get_or, take}
+use Rattle.std.proofs.Common.{◌≡◌, ℕ, ◌<◌, length, get_or}
 use Rattle.algebra.specs.Polynomial.{set_second}
 use Rattle.algebra.specs.Prime.{p}
 use Rattle.polynomial.specs.Numbers.{Clean}

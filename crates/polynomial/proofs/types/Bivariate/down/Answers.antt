@@ -1,4 +1,4 @@
-use Rattle.std.proofs.Common.{arith, rules}
+use Rattle.std.proofs.Common.{rules}
 use Rattle.polynomial.proofs.Rows.{down_start, down_turn}
 use Rattle.polynomial.proofs.types.Bivariate.down.Goals as goal
 
