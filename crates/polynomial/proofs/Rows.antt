@@ -18,9 +18,8 @@ front n rows = map coeffs (take n rows)
 length-rows : (n : ℕ) (rows : List Polynomial) → n ≤ length rows → length (front n rows) ≡ n
 length-rows n rows h = omega (arith, length-map (take n rows) coeffs, length-take n rows)
 
-row_at : (n i : ℕ) (f : Polynomial) (rows : List Polynomial) → i < n → n ≤ length rows → f ≡ get_or rows i f → get_or (front n rows) i [] ≡ coeffs f
-row_at n i f rows lt h is =
-    get_or-map coeffs (take n rows) i f [] (omega (arith, length-take n rows)) ∙ ap coeffs (get_or-take n rows i f lt ∙ sym is)
+row_at : (n i : ℕ) (d : Polynomial) (rows : List Polynomial) → i < n → n ≤ length rows → get_or (front n rows) i [] ≡ coeffs (get_or rows i d)
+row_at n i d rows lt h = get_or-map coeffs (take n rows) i d [] (omega (arith, length-take n rows)) ∙ ap coeffs (get_or-take n rows i d lt)
 
 length-second : (rs : List (List ℕ)) (y : ℕ) → length (set_second p rs y) ≡ length rs
 unfolding set_second
@@ -34,14 +33,14 @@ second_at (r ∷ rs) y zero h = refl
 second_at (r ∷ rs) y (suc k) h = second_at rs y k (omega arith)
 
 -- one more coefficient of what is left in x
-pub across_more : (i n : ℕ) (y e : Element) (f : Polynomial) (rows : List Polynomial) (cs : List Element) → length cs ≡ 6 → n ≤ 6 → i < n → n ≤ length rows → f ≡ get_or rows i f →
-    e.value ≡ value p (coeffs f) y.value → Clean i cs → ((k : ℕ) → k < i → at cs k ≡ get_or (set_second p (front n rows) y.value) k 0) →
+pub across_more : (i n : ℕ) (y e : Element) (d : Polynomial) (rows : List Polynomial) (cs : List Element) → length cs ≡ 6 → n ≤ 6 → i < n → n ≤ length rows →
+    e.value ≡ value p (coeffs (get_or rows i d)) y.value → Clean i cs → ((k : ℕ) → k < i → at cs k ≡ get_or (set_second p (front n rows) y.value) k 0) →
     (length (set cs i e) ≡ 6) × Clean (i + 1) (set cs i e) × ((k : ℕ) → k < i + 1 → at (set cs i e) k ≡ get_or (set_second p (front n rows) y.value) k 0)
-across_more i n y e f rows cs six short lt room is v clean below = (
+across_more i n y e d rows cs six short lt room v clean below = (
   length-set cs i e ∙ six,
   clean_set (i + 1) i cs e (omega arith) (λ k le. clean k (omega arith)),
   write_more (λ k. get_or (set_second p (front n rows) y.value) k 0) cs i e (omega arith) below
-      (v ∙ ap (λ r. value p r y.value) (sym (row_at n i f rows lt room is)) ∙ sym (second_at (front n rows) y.value i (omega (arith, length-rows n rows room)))),
+      (v ∙ ap (λ r. value p r y.value) (sym (row_at n i d rows lt room)) ∙ sym (second_at (front n rows) y.value i (omega (arith, length-rows n rows room)))),
 )
 
 pub across_whole : (i n : ℕ) (y : Element) (rows : List Polynomial) (cs : List Element) → length cs ≡ 6 → n ≤ 6 → i ≤ n → n ≤ i → n ≤ length rows →
@@ -60,7 +59,7 @@ unfolding set_first
 down_turn i n x f g h m rows pos le room is e t s =
     let lt : i - 1 < length (front n rows) = omega (arith, length-rows n rows room) in
     let next : suc (i - 1) ≡ i = omega arith in
-    let r : get_or (front n rows) (i - 1) [] ≡ coeffs f = row_at n (i - 1) f rows (omega arith) room is in
+    let r : get_or (front n rows) (i - 1) [] ≡ coeffs f = row_at n (i - 1) f rows (omega arith) room ∙ ap coeffs (sym is) in
     cc (ap (λ rs. set_first p rs x) (drop-cons (front n rows) (i - 1) [] lt))
 
 -- a list cut into rows
