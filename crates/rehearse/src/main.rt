@@ -22,6 +22,7 @@ use show::Refused;
 use stage::{Reply, Stage};
 use std::alloc::Global;
 use std::io::{BufRead, BufReader};
+use std::process::ExitCode;
 
 // Carries out a line. One that can't be used changes nothing.
 fn answer(stage: &mut Stage, heap: Global, line: &[u8]) -> Result<Reply, Failure>
@@ -60,10 +61,10 @@ fn play_all(rt: &HostRuntime) -> anyhow::Result<()> {
     Err(anyhow!("too many lines"))
 }
 
-fn main(rt: HostRuntime) -> anyhow::Result<()> {
-    let result = play_all(&rt);
-    if let Err(error) = &result {
-        eprintln!(rt; "rehearse: {error}")?;
-    }
-    result
+fn main(rt: HostRuntime) -> ExitCode {
+    let Err(error) = play_all(&rt) else {
+        return ExitCode::SUCCESS;
+    };
+    let _ = eprintln!(rt; "rehearse: {error}");
+    ExitCode::FAILURE
 }
