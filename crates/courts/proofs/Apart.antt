@@ -45,12 +45,12 @@ no_posts c zero h = refl
 no_posts c (suc n) h = ap₂ ◌++◌ (no_posts c n h) (none_collected (members c) (post_at c n) (h n))
 
 -- but that one has finished
-module _ (m : Nights) (lies : ℕ → ℕ → Bool) (lasting : Lasting (keepers_of m lies)) (set : Called m lies) (born : Born m lies) (t i : ℕ) (soon : t < m.many) (hi : Honest (at (keepers_of m lies) t) i) where
+module _ (m : Nights) (lies : ℕ → ℕ → Bool) (lasting : Lasting (keepers_of m lies)) (fixed : Called m lies) (born : Born m lies) (t i : ℕ) (soon : t < m.many) (hi : Honest (at (keepers_of m lies) t) i) where
   abbrev c : Court
   c = called m t 5 i
 
   last : Here m t 6 i c
-  last = call_here m lies lasting set t i soon hi (eves m lies lasting set born t i soon hi) 5 (omega arith)
+  last = call_here m lies lasting fixed t i soon hi (eves m lies lasting fixed born t i soon hi) 5 (omega arith)
 
   pub last_sends : (j : ℕ) → sends m t 5 i j ≡ []
   last_sends j = ap (map wire) (none_collected (dealers_of c.f c.night) (letter_to c j) (λ d. quiet-mail (terms_at c d) (seat_at c d) j last.round))
@@ -60,7 +60,7 @@ module _ (m : Nights) (lies : ℕ → ℕ → Bool) (lasting : Lasting (keepers_
       ∙ ap (λ b. map wire (option_to_list (cond b (Some (Finished c.night 0 c.me)) None))) (eq-eqb c.round 6 last.round)
       ∙ ap₂ (λ a b. wire (Finished a 0 b) ∷ []) last.night last.me
 
-module _ (m : Nights) (lies : ℕ → ℕ → Bool) (lasting : Lasting (keepers_of m lies)) (set : Called m lies) (born : Born m lies) (few : m.f ≤ 5) (t d : ℕ) (soon : t < m.many) (deals : d < dealers_of m.f t) where
+module _ (m : Nights) (lies : ℕ → ℕ → Bool) (lasting : Lasting (keepers_of m lies)) (fixed : Called m lies) (born : Born m lies) (few : m.f ≤ 5) (t d : ℕ) (soon : t < m.many) (deals : d < dealers_of m.f t) where
   abbrev k : play.Sitting
   k = sitting m t d
 
@@ -75,7 +75,7 @@ module _ (m : Nights) (lies : ℕ → ℕ → Bool) (lasting : Lasting (keepers_
       by false h = omega arith
 
   pub possible : play.Possible k
-  possible = record { few = few; timed = omega (arith, set.few); deals = all_deal (eqb t 0) deals; some = omega arith; wide = omega arith; tall = low (eqb t 0) }
+  possible = record { few = few; timed = omega (arith, fixed.few); deals = all_deal (eqb t 0) deals; some = omega arith; wide = omega arith; tall = low (eqb t 0) }
     where
       all_deal : (b : Bool) → d < cond b 1 (3 * m.f + 1) → d < 3 * m.f + 1
       all_deal true h = omega arith
@@ -88,19 +88,19 @@ module _ (m : Nights) (lies : ℕ → ℕ → Bool) (lasting : Lasting (keepers_
   -- what a court says about the dealing is what the seat says
   module _ (i : ℕ) (hi : Honest (at (keepers_of m lies) t) i) where
     eve : begins m t i ≡ at_day m.f i t false (begins m t i).value
-    eve = eves m lies lasting set born t i soon hi
+    eve = eves m lies lasting fixed born t i soon hi
 
     pub called-sits : (r : ℕ) → r < 5 → Sits m t (suc r) i (called m t r i)
-    called-sits r h = sits_call m t r i (within m t r i) h (sits m lies set t i soon hi eve r (omega arith))
+    called-sits r h = sits_call m t r i (within m t r i) h (sits m lies fixed t i soon hi eve r (omega arith))
 
     terms : (r e : ℕ) → r < 5 → terms_at (called m t r i) e ≡ play.terms_of (sitting m t e) i
     terms r e h = terms_are m t (suc r) i e (called m t r i) (called-sits r h)
 
     pub letter_is : (r j : ℕ) → r < 5 → letter_to (called m t r i) j d ≡ mail_to (play.terms_of k i) (play.at_call k x r i) j
-    letter_is r j h = ap₂ (λ a st. mail_to a st j) (terms r d h) (calls_are m lies set t i soon hi eve d deals room r h)
+    letter_is r j h = ap₂ (λ a st. mail_to a st j) (terms r d h) (calls_are m lies fixed t i soon hi eve d deals room r h)
 
     pub post_is : (r n : ℕ) → r < 5 → post_at (called m t r i) d n ≡ line_of (play.terms_of k i) (play.at_call k x r i) n
-    post_is r n h = ap₂ (λ a st. line_of a st n) (terms r d h) (calls_are m lies set t i soon hi eve d deals room r h)
+    post_is r n h = ap₂ (λ a st. line_of a st n) (terms r d h) (calls_are m lies fixed t i soon hi eve d deals room r h)
 
     all : (r : ℕ) → r < 5 → d < dealers_of (called m t r i).f (called m t r i).night
     all r h = subst (λ n. d < n) (sym (ap₂ dealers_of (called-sits r h).f (called-sits r h).night)) deals
@@ -135,7 +135,7 @@ module _ (m : Nights) (lies : ℕ → ℕ → Bool) (lasting : Lasting (keepers_
   unfolding lines_for board_for board_of
   sees zero i h = refl
   sees (suc r) i h = elim (dec_lt r 5) [
-    | yes l ↦ rw (lt-ltb r 5 l) (board-tagged d (m.lines t (suc r) i) ∙ ap (keep d) (plays.set.sees t (suc r) i soon (omega arith) h))
+    | yes l ↦ rw (lt-ltb r 5 l) (board-tagged d (m.lines t (suc r) i) ∙ ap (keep d) (plays.fixed.sees t (suc r) i soon (omega arith) h))
     | no l ↦ rw (le-ltb r 5 (omega arith))
   ]
 
@@ -146,14 +146,14 @@ module _ (m : Nights) (lies : ℕ → ℕ → Bool) (lasting : Lasting (keepers_
     mails : (r j : ℕ) → words_by i (mail_of (X.lines (suc r) j)) ≡ play.sends K X r i j
     unfolding lines_for mail_of words_by
     mails r j = elim (dec_lt r 5) [
-      | yes l ↦ rw (lt-ltb r 5 l) (ap (words_by i) (mail-tagged d (m.lines t (suc r) j)) ∙ words_keep i d (mail_of (m.lines t (suc r) j)) ∙ ap (of_tag d) (plays.mails t r i j soon (omega arith) hi) ∙ says m lies lasting plays.set plays.born few t d soon deals i hi r j l)
+      | yes l ↦ rw (lt-ltb r 5 l) (ap (words_by i) (mail-tagged d (m.lines t (suc r) j)) ∙ words_keep i d (mail_of (m.lines t (suc r) j)) ∙ ap (of_tag d) (plays.mails t r i j soon (omega arith) hi) ∙ says m lies lasting plays.fixed plays.born few t d soon deals i hi r j l)
       | no l ↦ rw (le-ltb r 5 (omega arith)) (sym (ap (λ o. map wire (option_to_list o)) (quiet-mail (play.terms_of K i) (play.at_call K X r i) j (late r (omega arith)))))
     ]
 
     lines : (r : ℕ) → words_by i (X.board (suc r)) ≡ play.posts K X r i
     unfolding board_for words_by
     lines r = elim (dec_lt r 5) [
-      | yes l ↦ rw (lt-ltb r 5 l) (words_keep i d (m.board t (suc r)) ∙ ap (of_tag d) (plays.lines t r i soon (omega arith) hi) ∙ puts m lies lasting plays.set plays.born few t d soon deals i hi r l)
+      | yes l ↦ rw (lt-ltb r 5 l) (words_keep i d (m.board t (suc r)) ∙ ap (of_tag d) (plays.lines t r i soon (omega arith) hi) ∙ puts m lies lasting plays.fixed plays.born few t d soon deals i hi r l)
       | no l ↦ rw (le-ltb r 5 (omega arith)) (sym (ap (map wire) (none_collected (3 * m.f + 1) _ (λ n. quiet_line (play.terms_of K i) (play.at_call K X r i) n (late r (omega arith))))))
     ]
 

@@ -1,16 +1,22 @@
 -- There are runs in which those that keep the rules run their courts, whatever is drawn and whatever liars send.
-use Rattle.std.proofs.Common.{◌≡◌, ℕ, zero, suc, ◌+◌, ◌-◌, ◌*◌, ◌<◌, ◌≤◌, Bool, true, false, cond, ◌&&◌, T, eqb, List, [], ◌++◌, map, length, sym, refl, ap, ◌∙◌, append-nil, arith, eq-eqb, ne_eqb}
+use Rattle.std.proofs.Common.{◌≡◌, ℕ, zero, suc, ◌+◌, ◌-◌, ◌*◌, ◌<◌, ◌≤◌, Bool, true, false, cond, ◌&&◌, T, eqb, List, [], ◌++◌, map, length, None, Some, sym, refl, ap, ◌∙◌, subst, append-nil, arith, eq-eqb, ne_eqb}
 use Rattle.rules.specs.Deal.{Honest}
 use Rattle.rules.specs.Rounds.{Said, words_by}
 use Rattle.rules.specs.Course.{spoken}
 use Rattle.rules.specs.Wire.{wire, small}
+use Rattle.rules.specs.Play as play
 use Rattle.rules.specs.Play.{mail_of}
 use Rattle.rules.proofs.Playing.{spoken_honest, spoken_liar}
 use Rattle.rules.proofs.Seated.{lines_of, mail_back, board_back}
 use Rattle.nights.specs.Run.{Lasting, at}
 use Rattle.courts.specs.Court.{Court, Chance, Round, Over, fresh, low_of, dealers_of, letters_to, posts_of}
-use Rattle.courts.specs.Promise.{Liars}
+use Rattle.courts.specs.Promise.{Liars, CanPlay}
+use Rattle.courts.proofs.Sits.{sitting, play_of}
+use Rattle.courts.proofs.Public.{over_at}
+use Rattle.courts.proofs.First.{first_value}
+use Rattle.courts.proofs.Held.{deals_so, keeps_is}
 use Rattle.courts.proofs.Whole.{lasting_of}
+use Rattle.courts.proofs.Timely.{over_timely}
 use Rattle.courts.specs.Nights.{Nights, Called, Born, Plays, keepers_of, step, fed, during, begins, within, called, sends, posts}
 
 -- what is left of a night: the courts, and what was said too late
@@ -118,9 +124,9 @@ module _ (f many : ℕ) (lies : ℕ → ℕ → Bool) (draws : ℕ → ℕ → L
 
   module _ (limit : many ≤ 4294967296) (rounds : (t : ℕ) → t < many → (1 ≤ calls t) × (calls t ≤ 6)) (first : 0 < many → calls 0 ≡ 6)
       (exact : (t i : ℕ) → t < many → Honest (at (keepers_of run lies) t) i → i < dealers_of f t → (length (draws t i) ≡ (f + 1) * low_of f t) × (small (draws t i) ≡ true)) where
-    set_run : Called run lies
+    fixed_run : Called run lies
     unfolding run
-    set_run = record { few = limit; rounds = rounds; first = first; draws = exact; sees = λ t r i s h hi. board_back (mails t r i) (boards t r) }
+    fixed_run = record { few = limit; rounds = rounds; first = first; draws = exact; sees = λ t r i s h hi. board_back (mails t r i) (boards t r) }
 
     either : (b : Bool) (l : List (List ℕ)) → cond b [] l ++ cond b l [] ≡ l
     either true l = refl
@@ -132,7 +138,7 @@ module _ (f many : ℕ) (lies : ℕ → ℕ → Bool) (draws : ℕ → ℕ → L
     plays_run : Born run lies → Plays run lies
     unfolding run eve
     plays_run born = record {
-      set = set_run;
+      fixed = fixed_run;
       born = born;
       mails = λ t r i j s h hi. mail_by t i hi r j ∙ ap (λ b. cond b [] (sends run t r i j)) (early t i hi r h);
       lines = λ t r i s h hi. board_by t i hi r ∙ ap (λ b. cond b [] (posts run t r i)) (early t i hi r h);
@@ -178,14 +184,14 @@ module _ (f many : ℕ) (lies : ℕ → ℕ → Bool) (draws : ℕ → ℕ → L
       zero_only P h zero l = h
       zero_only P h (suc t) l = absurd (omega arith)
 
-      set_one : Called one lies
+      fixed_one : Called one lies
       unfolding one run
-      set_one = record {
+      fixed_one = record {
         few = omega arith;
         rounds = zero_only (λ t. (1 ≤ calls t) × (calls t ≤ 6)) (rounds 0 some);
         first = λ _. first some;
         draws = λ t i s hi d. exact t i (omega (arith, s, some)) (honest_one t i hi) d;
-        sees = λ t r i s h hi. set_run.sees t r i (omega (arith, s, some)) h (honest_one t i hi);
+        sees = λ t r i s h hi. fixed_run.sees t r i (omega (arith, s, some)) h (honest_one t i hi);
       }
 
       born_one : Born one lies
@@ -211,7 +217,7 @@ module _ (f many : ℕ) (lies : ℕ → ℕ → Bool) (draws : ℕ → ℕ → L
       plays_one : Plays one lies
       unfolding one eve
       plays_one = record {
-        set = set_one;
+        fixed = fixed_one;
         born = born_one;
         mails = λ t r i j s. zero_only (λ t. suc r < calls t → Honest (at (keepers_of one lies) t) i → words_by i (mail_of (one.lines t (suc r) j)) ≡ sends one t r i j) (λ _ hi. mail_one r i j hi) t s;
         lines = λ t r i s. zero_only (λ t. suc r < calls t → Honest (at (keepers_of one lies) t) i → words_by i (one.board t (suc r)) ≡ posts one t r i) (λ _ hi. board_one r i hi) t s;
@@ -223,3 +229,46 @@ module _ (f many : ℕ) (lies : ℕ → ℕ → Bool) (draws : ℕ → ℕ → L
             (λ _ hi. ([], append-nil _ ∙ board_one r i hi, λ z. absurd (omega arith))) t s;
         silent = λ i j s hi. (mail_by_0 0 i (honest_one 0 i hi) j, board_by_0 0 i (honest_one 0 i hi));
       }
+
+      soon : 0 < one.many
+      unfolding one
+      soon = omega arith
+
+      whole : one.calls 0 ≡ 6
+      unfolding one
+      whole = first some
+
+      over_one : over_at one 0 ≡ true
+      unfolding one
+      over_one = over_timely one lies lasting fixed_one born_one few liars.few 0 soon whole (λ i hi. board_one 5 i hi)
+
+      -- so each court has a value after it
+      value_one : (i : ℕ) → Honest (at (keepers_of one lies) 0) i → (v : ℕ) × ((begins one 1 i).value ≡ Some v)
+      unfolding one
+      value_one i hi =
+          let deals : 0 < dealers_of f 0 = omega arith in
+          let hd : Honest (at (keepers_of one lies) 0) 0 = ((omega arith, tt), λ q. subst T h0 q) in
+          let d = deals_so one lies lasting plays_one few liars.few 0 0 soon whole deals in
+          let o = d.one i hi (d.fair hd i hi).0 in (
+            _,
+            first_value one lies lasting fixed_one few i soon hi ∙ ap (λ b. cond b (play.at_call (sitting one 0 0) (play_of one 0 0) 5 i).kept None) over_one
+                ∙ sym (keeps_is one lies lasting plays_one few liars.few 0 0 soon whole deals i hi) ∙ (o.2 i hi).1,
+          )
+
+      born_run : Born run lies
+      unfolding one run
+      born_run more i hi e = let v = value_one i hi in let z : Some v.0 ≡ None = sym v.1 ∙ ap (λ (c : Court). c.value) (same_begins i) ∙ e in absurd (let q : ⊥ = cc in q)
+
+pub can_play_lem : CanPlay
+unfolding run
+can_play_lem f many few limit lies liars draws exact calls rounds six late mail lines =
+    let exact' = λ (t i : ℕ) (s : t < many) (hi : Honest (at (keepers_of (run f many lies draws calls late mail lines) lies) t) i) (d : i < dealers_of f t). exact t i s d (honest_false (lies t i) hi.1) in (
+      run f many lies draws calls late mail lines,
+      refl,
+      refl,
+      refl,
+      refl,
+      plays_run f many lies draws calls late mail lines limit rounds (λ _. six) exact',
+      λ h0 prompt more. born_run f many lies draws calls late mail lines limit rounds (λ _. six) exact' (omega arith) few liars h0 prompt more,
+      by_liars f many lies draws calls late mail lines,
+    )

@@ -25,17 +25,17 @@ use Rattle.courts.proofs.Records.{run, base, base_is, base_exact, real_first, ke
 
 module _ (m : Nights) (lies : ℕ → ℕ → Bool) (lasting : Lasting (keepers_of m lies)) (plays : Plays m lies) (few : m.f ≤ 5) where
   module _ (liars : (t : ℕ) → count (3 * m.f + 1) (lies t) ≤ m.f) (t d : ℕ) (soon : t < m.many) (whole : m.calls t ≡ 6) (deals : d < dealers_of m.f t) where
-    abbrev k : play.Sitting
+    abbrev pub k : play.Sitting
     k = sitting m t d
 
-    abbrev x : play.Play
+    abbrev pub x : play.Play
     x = play_of m t d
 
-    abbrev H : ℕ → Type 0
+    abbrev pub H : ℕ → Type 0
     H i = Honest (at (keepers_of m lies) t) i
 
     seat_is : (i : ℕ) → H i → seat_at (within m t 5 i) d ≡ play.after k x 5 i
-    seat_is i hi = seats_are m lies plays.set t i soon hi (eves m lies lasting plays.set plays.born t i soon hi) d deals (room m lies lasting plays.set plays.born few t d soon deals) 5 (omega arith)
+    seat_is i hi = seats_are m lies plays.fixed t i soon hi (eves m lies lasting plays.fixed plays.born t i soon hi) d deals (room m lies lasting plays.fixed plays.born few t d soon deals) 5 (omega arith)
 
     board_is : (i : ℕ) → H i → board m t d i ≡ (play.after k x 5 i).posts
     board_is i hi = ap (λ (st : State). st.posts) (seat_is i hi)
@@ -44,15 +44,15 @@ module _ (m : Nights) (lies : ℕ → ℕ → Bool) (lasting : Lasting (keepers_
     posts_same h i hh hi = same_posts m lies lasting plays few t d soon whole deals h i hh hi
 
     goes_is : (h i : ℕ) → H h → H i → goes_on m t d i ≡ own (overall k x h) i
-    goes_is h i hh hi = ap₂ own_share (terms_are m t 5 i d (within m t 5 i) (sits m lies plays.set t i soon hi (eves m lies lasting plays.set plays.born t i soon hi) 5 (omega arith))) (seat_is i hi)
+    goes_is h i hh hi = ap₂ own_share (terms_are m t 5 i d (within m t 5 i) (sits m lies plays.fixed t i soon hi (eves m lies lasting plays.fixed plays.born t i soon hi) 5 (omega arith))) (seat_is i hi)
         ∙ ap (λ q. or_else (mine (play.setting_of k) i (play.after k x 5 i).hand) (revealed q i)) (posts_same i h hi hh)
 
-    keeps_is : (i : ℕ) → H i → get_or (called m t 5 i).kept d None ≡ (play.at_call k x 5 i).kept
-    keeps_is i hi = let eve = eves m lies lasting plays.set plays.born t i soon hi in
-        ap (λ l. get_or l d None) (kept_list m lies plays.set t i soon hi eve) ∙ kept_at m lies plays.set t i soon hi eve few d deals
+    pub keeps_is : (i : ℕ) → H i → get_or (called m t 5 i).kept d None ≡ (play.at_call k x 5 i).kept
+    keeps_is i hi = let eve = eves m lies lasting plays.fixed plays.born t i soon hi in
+        ap (λ l. get_or l d None) (kept_list m lies plays.fixed t i soon hi eve) ∙ kept_at m lies plays.fixed t i soon hi eve few d deals
 
     dealing : (h : ℕ) → H h → (T (accepted (play.setting_of k) (play.after k x 5 h).posts) → One k (lies t) x h) × (H d → Passes k (lies t) x h (polynomial m t d))
-    dealing h hh = let r = one_dealing_lem k (possible m lies lasting plays.set plays.born few t d soon deals) (lies t) (liars t) x (plays_apart m lies lasting plays few t d soon whole deals) h hh in
+    dealing h hh = let r = one_dealing_lem k (possible m lies lasting plays.fixed plays.born few t d soon deals) (lies t) (liars t) x (plays_apart m lies lasting plays few t d soon whole deals) h hh in
         (r.0, λ hd. r.1 (polynomial m t d) refl (drawn_exact m lies lasting plays few t d soon whole deals hd) hd)
 
     pub deals_so : Deals m lies t d
@@ -73,7 +73,7 @@ module _ (m : Nights) (lies : ℕ → ℕ → Bool) (lasting : Lasting (keepers_
     h = holds (keepers_of m lies) lasting r (keeps_run m lies lasting plays few (base m lies lasting plays few) (base_is m lies lasting plays few) (λ t d _ e. base_exact m lies lasting plays few t d e))
 
     value_is : (t i : ℕ) → t < m.many → Honest (at (keepers_of m lies) t) i → (begins m (suc t) i).value ≡ Some (held (keepers_of m lies) r t i)
-    value_is t i soon hi = values_are m lies lasting plays few (base m lies lasting plays few) i (given i (honest_first m lies lasting plays.set t i hi)) t soon hi
+    value_is t i soon hi = values_are m lies lasting plays few (base m lies lasting plays few) i (given i (honest_first m lies lasting plays.fixed t i hi)) t soon hi
 
     said_is : (t : ℕ) → t < m.many → (said : ℕ → ℕ) → ((i : ℕ) → Honest (at (keepers_of m lies) t) i → (begins m (suc t) i).value ≡ Some (said i)) →
         (i : ℕ) → Honest (at (keepers_of m lies) t) i → said i ≡ held (keepers_of m lies) r t i

@@ -13,12 +13,12 @@ use Rattle.courts.proofs.Routing.{fed_same}
 use Rattle.courts.proofs.Calls.{call_last}
 use Rattle.courts.proofs.Sits.{Sits, sits, sitting, play_of, seats_are, terms_are}
 
-module _ (m : Nights) (lies : ℕ → ℕ → Bool) (set : Called m lies) (t i : ℕ) (soon : t < m.many) (hi : Honest (at (keepers_of m lies) t) i) (eve : begins m t i ≡ at_day m.f i t false (begins m t i).value) where
+module _ (m : Nights) (lies : ℕ → ℕ → Bool) (fixed : Called m lies) (t i : ℕ) (soon : t < m.many) (hi : Honest (at (keepers_of m lies) t) i) (eve : begins m t i ≡ at_day m.f i t false (begins m t i).value) where
   abbrev c5 : Court
   c5 = within m t 5 i
 
   s5 : Sits m t 5 i c5
-  s5 = sits m lies set t i soon hi eve 5 (omega arith)
+  s5 = sits m lies fixed t i soon hi eve 5 (omega arith)
 
   pub kept_list : (called m t 5 i).kept ≡ map (decided_at c5) (range_with_len 0 16)
   kept_list = ap (λ (c : Court). c.kept) (call_last c5 s5.spent s5.round)
@@ -45,5 +45,5 @@ module _ (m : Nights) (lies : ℕ → ℕ → Bool) (set : Called m lies) (t i :
     kept_at =
         get_or-map-range_with_len (decided_at c5) 0 16 d d None few_d (omega arith)
         ∙ ap (λ b. cond b (decided (terms_at c5 d) (seat_at c5 d)) None) (lt-ltb d (members c5) (omega (arith, s5.f, inside)))
-        ∙ ap₂ decided (terms_are m t 5 i d c5 s5) (seats_are m lies set t i soon hi eve d deals few_d 5 (omega arith))
-        ∙ sym (sixth (play.terms_of (sitting m t d) i) (play.after (sitting m t d) (play_of m t d) 5 i) (ap (λ (st : State). st.round) (sym (seats_are m lies set t i soon hi eve d deals few_d 5 (omega arith))) ∙ s5.round))
+        ∙ ap₂ decided (terms_are m t 5 i d c5 s5) (seats_are m lies fixed t i soon hi eve d deals few_d 5 (omega arith))
+        ∙ sym (sixth (play.terms_of (sitting m t d) i) (play.after (sitting m t d) (play_of m t d) 5 i) (ap (λ (st : State). st.round) (sym (seats_are m lies fixed t i soon hi eve d deals few_d 5 (omega arith))) ∙ s5.round))

@@ -106,7 +106,7 @@ module _ (m : Nights) (lies : ℕ → ℕ → Bool) (lasting : Lasting (keepers_
     apart = plays_apart m lies lasting plays few t (w t) soon whole (w-deals t)
 
     pub can : play.Possible k
-    can = possible m lies lasting plays.set plays.born few t (w t) soon (w-deals t)
+    can = possible m lies lasting plays.fixed plays.born few t (w t) soon (w-deals t)
 
     keeper : (i : ℕ) → Memᴰ i (night t) → Keeper (at Q t) i
     keeper i h = (inside Q lasting day night spied out t i h, tt)
@@ -154,7 +154,7 @@ module _ (m : Nights) (lies : ℕ → ℕ → Bool) (lasting : Lasting (keepers_
     where
       go : (b : Bool) → (b ≡ true → R t ≡ true) → (length (cond b (flat (ts t)) (m.draws t i)) ≡ (m.f + 1) * low_of m.f t) × (small (cond b (flat (ts t)) (m.draws t i)) ≡ true)
       go true f = (flat-length (low_of m.f t) (m.f + 1) (ts t) (exact_ts t (f refl)), flat_small (low_of m.f t) (m.f + 1) (ts t) (exact_ts t (f refl)))
-      go false f = plays.set.draws t i s h d
+      go false f = plays.fixed.draws t i s h d
 
   -- WHAT IS SET
   board_kept : (t r i : ℕ) → board_of (n.lines t r i) ≡ board_of (m.lines t r i)
@@ -164,13 +164,13 @@ module _ (m : Nights) (lies : ℕ → ℕ → Bool) (lasting : Lasting (keepers_
       go true = board-reline (turn (w t) (say t r i)) (m.lines t r i)
       go false = refl
 
-  pub set_n : Called n lies
-  set_n = record {
-    few = plays.set.few;
-    rounds = plays.set.rounds;
-    first = plays.set.first;
+  pub fixed_n : Called n lies
+  fixed_n = record {
+    few = plays.fixed.few;
+    rounds = plays.fixed.rounds;
+    first = plays.fixed.first;
     draws = draws_ok;
-    sees = λ t r i s h hi. board_kept t r i ∙ plays.set.sees t r i s h hi;
+    sees = λ t r i s h hi. board_kept t r i ∙ plays.fixed.sees t r i s h hi;
   }
 
   -- EACH DEALING BY ITSELF
@@ -224,13 +224,13 @@ module _ (m : Nights) (lies : ℕ → ℕ → Bool) (lasting : Lasting (keepers_
 
     kept_m : (v : ℕ) × ((begins m 1 i).value ≡ cond (over_at m 0) (when gives v) None)
     unfolding gives
-    kept_m = (_, first_value m lies lasting plays.set few i some hi ∙ ap (λ o. cond (over_at m 0) o None) (ap (λ d. (play.at_call (sitting m 0 d) (play_of m 0 d) 5 i).kept) (sym first_dealer) ∙ (plays_keep_lem (k 0 real_0) (can 0 real_0) (lies 0) (x 0 real_0) (apart 0 real_0) i hi).keeps))
+    kept_m = (_, first_value m lies lasting plays.fixed few i some hi ∙ ap (λ o. cond (over_at m 0) o None) (ap (λ d. (play.at_call (sitting m 0 d) (play_of m 0 d) 5 i).kept) (sym first_dealer) ∙ (plays_keep_lem (k 0 real_0) (can 0 real_0) (lies 0) (x 0 real_0) (apart 0 real_0) i hi).keeps))
 
     kept_n : (v : ℕ) × ((begins n 1 i).value ≡ cond (over_at m 0) (when gives v) None)
     unfolding gives
     kept_n = (
       _,
-      first_value n lies lasting set_n few i some hi ∙ ap₂ (λ b o. cond b o None) (over_n 0)
+      first_value n lies lasting fixed_n few i some hi ∙ ap₂ (λ b o. cond b o None) (over_n 0)
           (ap (λ d. (play.at_call (sitting m 0 d) (play_of n 0 d) 5 i).kept) (sym first_dealer) ∙ ap (λ y. (play.at_call (k 0 real_0) y 5 i).kept) (play_there 0 real_0)
           ∙ (plays_keep_lem (k 0 real_0) (can 0 real_0) (lies 0) (other 0 real_0) (other_plays 0 real_0) i hi).keeps ∙ ap (λ b. when (accepted (play.setting_of (k 0 real_0)) b) (value p (own (overall (k 0 real_0) (other 0 real_0) i) i).across 0)) (other_board 0 real_0 i)),
     )
@@ -258,10 +258,10 @@ module _ (m : Nights) (lies : ℕ → ℕ → Bool) (lasting : Lasting (keepers_
     cn = called n t r i
 
     sm : Sits m t (suc r) i cm
-    sm = called-sits m lies lasting plays.set plays.born few t (w t) soon' (w-deals t) i hi r early
+    sm = called-sits m lies lasting plays.fixed plays.born few t (w t) soon' (w-deals t) i hi r early
 
     sn : Sits n t (suc r) i cn
-    sn = called-sits n lies lasting set_n born_n few t (w t) soon' (w-deals t) i hi r early
+    sn = called-sits n lies lasting fixed_n born_n few t (w t) soon' (w-deals t) i hi r early
 
     dealers_m : dealers_of cm.f cm.night ≡ dealers_of m.f t
     dealers_m = ap₂ dealers_of sm.f sm.night
@@ -270,10 +270,10 @@ module _ (m : Nights) (lies : ℕ → ℕ → Bool) (lasting : Lasting (keepers_
     dealers_n = ap₂ dealers_of sn.f sn.night
 
     letter_m : (j d : ℕ) → d < dealers_of m.f t → letter_to cm j d ≡ mail_to (play.terms_of (sitting m t d) i) (play.at_call (sitting m t d) (play_of m t d) r i) j
-    letter_m j d h = letter_is m lies lasting plays.set plays.born few t d soon' h i hi r j early
+    letter_m j d h = letter_is m lies lasting plays.fixed plays.born few t d soon' h i hi r j early
 
     letter_n : (j d : ℕ) → d < dealers_of m.f t → letter_to cn j d ≡ mail_to (play.terms_of (sitting m t d) i) (play.at_call (sitting m t d) (play_of n t d) r i) j
-    letter_n j d h = letter_is n lies lasting set_n born_n few t d soon' h i hi r j early
+    letter_n j d h = letter_is n lies lasting fixed_n born_n few t d soon' h i hi r j early
 
     letter_else : (j d : ℕ) → d < dealers_of m.f t → (R t ≡ true → d ≡ w t → ⊥) → letter_to cm j d ≡ letter_to cn j d
     letter_else j d h e = letter_m j d h ∙ ap (λ y. mail_to (play.terms_of (sitting m t d) i) (play.at_call (sitting m t d) y r i) j) (sym (play_else t d e)) ∙ sym (letter_n j d h)
@@ -300,7 +300,7 @@ module _ (m : Nights) (lies : ℕ → ℕ → Bool) (lasting : Lasting (keepers_
 
     -- on the board nothing changes
     post_d : (d : ℕ) → d < dealers_of m.f t → map wire (collected (members cm) (post_at cm d)) ≡ map wire (collected (members cn) (post_at cn d))
-    post_d d h = puts_so m lies lasting plays.set plays.born few t d soon' h i hi r early ∙ go (R t) refl (ℕ_discrete d (w t)) ∙ sym (puts_so n lies lasting set_n born_n few t d soon' h i hi r early)
+    post_d d h = puts_so m lies lasting plays.fixed plays.born few t d soon' h i hi r early ∙ go (R t) refl (ℕ_discrete d (w t)) ∙ sym (puts_so n lies lasting fixed_n born_n few t d soon' h i hi r early)
       where
         there : (e : R t ≡ true) → play.posts (sitting m t (w t)) (play_of m t (w t)) r i ≡ play.posts (sitting m t (w t)) (play_of n t (w t)) r i
         there e = other_posts t e r i hi ∙ ap (λ y. play.posts (sitting m t (w t)) y r i) (sym (play_there t e))
@@ -314,15 +314,15 @@ module _ (m : Nights) (lies : ℕ → ℕ → Bool) (lasting : Lasting (keepers_
         go false e q = else (λ a. absurd (true≢false (sym a ∙ e)))
 
     posts_early : posts m t r i ≡ posts n t r i
-    posts_early = quiet m cm (unfinished m lies lasting plays.set plays.born few t (w t) soon' (w-deals t) i hi r early) ∙ ap (λ a. map wire (posts_up_to cm a)) dealers_m
-        ∙ posts_same cm cn (dealers_of m.f t) post_d ∙ ap (λ a. map wire (posts_up_to cn a)) (sym dealers_n) ∙ sym (quiet n cn (unfinished n lies lasting set_n born_n few t (w t) soon' (w-deals t) i hi r early))
+    posts_early = quiet m cm (unfinished m lies lasting plays.fixed plays.born few t (w t) soon' (w-deals t) i hi r early) ∙ ap (λ a. map wire (posts_up_to cm a)) dealers_m
+        ∙ posts_same cm cn (dealers_of m.f t) post_d ∙ ap (λ a. map wire (posts_up_to cn a)) (sym dealers_n) ∙ sym (quiet n cn (unfinished n lies lasting fixed_n born_n few t (w t) soon' (w-deals t) i hi r early))
       where
         quiet : (y : Nights) (c : Court) → finished_word c ≡ None → map wire (posts_of c) ≡ map wire (posts_up_to c (dealers_of c.f c.night))
         quiet y c e = ap (λ o. map wire (posts_up_to c (dealers_of c.f c.night) ++ option_to_list o)) e ∙ ap (map wire) (append-nil (posts_up_to c (dealers_of c.f c.night)))
 
   posts_n : (t r i : ℕ) → t < m.many → r < 6 → Honest (at Q t) i → posts m t r i ≡ posts n t r i
   posts_n t r i s h hi = elim (ℕ_discrete r 5) [
-    | yes e ↦ subst (λ a. posts m t a i ≡ posts n t a i) (sym e) (last_posts m lies lasting plays.set plays.born t i s hi ∙ sym (last_posts n lies lasting set_n born_n t i s hi))
+    | yes e ↦ subst (λ a. posts m t a i ≡ posts n t a i) (sym e) (last_posts m lies lasting plays.fixed plays.born t i s hi ∙ sym (last_posts n lies lasting fixed_n born_n t i s hi))
     | no e ↦ posts_early t r i s (omega arith) hi
   ]
 
@@ -350,7 +350,7 @@ module _ (m : Nights) (lies : ℕ → ℕ → Bool) (lasting : Lasting (keepers_
   mails_n t r i j s h hi = go (R t) refl
     where
       early : r < 5
-      early = omega (arith, (plays.set.rounds t s).1)
+      early = omega (arith, (plays.fixed.rounds t s).1)
 
       go : (b : Bool) → R t ≡ b → words_by i (mail_of (n.lines t (suc r) j)) ≡ sends n t r i j
       go true e = words_n t (suc r) i j e ∙ ap (to_each (turn (w t) (say t (suc r) j) i)) (plays.mails t r i j s h hi) ∙ sends_there t r i s early hi e j
@@ -378,13 +378,13 @@ module _ (m : Nights) (lies : ℕ → ℕ → Bool) (lasting : Lasting (keepers_
       five e = omega (arith, whole t e)
 
       last_m : r ≡ 5 → sends m t r i j ≡ []
-      last_m e = ap (λ a. sends m t a i j) e ∙ last_sends m lies lasting plays.set plays.born t i s hi j
+      last_m e = ap (λ a. sends m t a i j) e ∙ last_sends m lies lasting plays.fixed plays.born t i s hi j
 
       last_n : r ≡ 5 → sends n t r i j ≡ []
-      last_n e = ap (λ a. sends n t a i j) e ∙ last_sends n lies lasting set_n born_n t i s hi j
+      last_n e = ap (λ a. sends n t a i j) e ∙ last_sends n lies lasting fixed_n born_n t i s hi j
 
       same : R t ≡ false → sends m t r i j ≡ sends n t r i j
-      same e = elim (ℕ_discrete r 5) [ yes a ↦ last_m a ∙ sym (last_n a) | no a ↦ sends_else t r i s (omega (arith, (plays.set.rounds t s).1)) hi e j ]
+      same e = elim (ℕ_discrete r 5) [ yes a ↦ last_m a ∙ sym (last_n a) | no a ↦ sends_else t r i s (omega (arith, (plays.fixed.rounds t s).1)) hi e j ]
 
       go : (b : Bool) → R t ≡ b → Late m t r i j → Late n t r i j
       go true e l = let z = l.1 ∙ last_m (five e) in
@@ -393,12 +393,12 @@ module _ (m : Nights) (lies : ℕ → ℕ → Bool) (lasting : Lasting (keepers_
 
   pub plays_n : Plays n lies
   plays_n = record {
-    set = set_n;
+    fixed = fixed_n;
     born = born_n;
     mails = mails_n;
-    lines = λ t r i s h hi. plays.lines t r i s h hi ∙ posts_n t r i s (omega (arith, (plays.set.rounds t s).1)) hi;
+    lines = λ t r i s h hi. plays.lines t r i s h hi ∙ posts_n t r i s (omega (arith, (plays.fixed.rounds t s).1)) hi;
     late_mails = late_n;
-    late_lines = λ t r i s h hi. let l = plays.late_lines t r i s h hi in (l.0, l.1 ∙ posts_n t r i s (omega (arith, (plays.set.rounds t s).1)) hi, l.2);
+    late_lines = λ t r i s h hi. let l = plays.late_lines t r i s h hi in (l.0, l.1 ∙ posts_n t r i s (omega (arith, (plays.fixed.rounds t s).1)) hi, l.2);
     silent = λ i j s h. (ap (λ l. words_by i (mail_of l)) (lines_first 0 j) ∙ (plays.silent i j s h).0, (plays.silent i j s h).1);
   }
 
@@ -491,7 +491,7 @@ module _ (m : Nights) (lies : ℕ → ℕ → Bool) (lasting : Lasting (keepers_
       where
         go : (a b : Bool) → (a ≡ true → suc t < m.many) → over_at m (suc t) ≡ b → T (a && not (a && (eqb (suc t) 0 || b))) → (Memᴰ i (day t) → Memᴰ i (day (suc t))) × (Memᴰ i (day (suc t)) → Memᴰ i (day t))
         go true false f e d = let s = f refl in let hg = guide_honest m lies lasting plays few (suc t) in
-            one-day t i (guide m lies lasting plays few (suc t)) s hg (over_is m lies lasting plays.set (suc t) (guide m lies lasting plays few (suc t)) s hg (eves m lies lasting plays.set plays.born (suc t) (guide m lies lasting plays few (suc t)) s hg) ∙ e)
+            one-day t i (guide m lies lasting plays few (suc t)) s hg (over_is m lies lasting plays.fixed (suc t) (guide m lies lasting plays few (suc t)) s hg (eves m lies lasting plays.fixed plays.born (suc t) (guide m lies lasting plays few (suc t)) s hg) ∙ e)
         go true true f e d = absurd (both (eqb (suc t) 0) d)
           where
             both : (a : Bool) → T (not (a || true)) → ⊥
@@ -509,7 +509,7 @@ module _ (m : Nights) (lies : ℕ → ℕ → Bool) (lasting : Lasting (keepers_
         some = omega arith
 
         h0 : Honest (at Q 0) j
-        h0 = honest_first m lies lasting plays.set t j hj
+        h0 = honest_first m lies lasting plays.fixed t j hj
 
         go : (o : Option ℕ) → (begins m 1 j).value ≡ o → (begins m (suc t) j).value ≡ (begins n (suc t) j).value
         go None e = first t s
@@ -526,13 +526,13 @@ module _ (m : Nights) (lies : ℕ → ℕ → Bool) (lasting : Lasting (keepers_
 
     days_same : (t j : ℕ) → t < m.many → Memᴰ j (day t) → Honest (at Q t) j → Eve (suc t) j
     days_same t j s h hj =
-        ends_with m lies lasting plays.set t j s hj (eves m lies lasting plays.set plays.born t j s hj) ∙ ap (next_of m.f j t) (value_same t j s h hj)
-        ∙ sym (ends_with n lies lasting set_n t j s hj (eves n lies lasting set_n born_n t j s hj))
+        ends_with m lies lasting plays.fixed t j s hj (eves m lies lasting plays.fixed plays.born t j s hj) ∙ ap (next_of m.f j t) (value_same t j s h hj)
+        ∙ sym (ends_with n lies lasting fixed_n t j s hj (eves n lies lasting fixed_n born_n t j s hj))
 
     eve_same : (t j : ℕ) → t < m.many → Memᴰ j (night t) → Honest (at Q t) j → Eve t j
     unfolding begins
     eve_same zero j s h hj = refl
-    eve_same (suc t) j s h hj = days_same t j (omega arith) (spied.before t j h) (honest_before m lies lasting plays.set t j hj)
+    eve_same (suc t) j s h hj = days_same t j (omega arith) (spied.before t j h) (honest_before m lies lasting plays.fixed t j hj)
 
     nights_same : (t r j : ℕ) → t < m.many → Memᴰ j (night t) → Honest (at Q t) j → within m t r j ≡ within n t r j
     nights_same t r j s h hj = ap₂ (λ c ls. during c ls r) (ap₂ (λ c ns. step c (Chance ns)) (eve_same t j s h hj) draws_same) (fun_ext (λ a. lines_kept t a j h))
@@ -556,7 +556,7 @@ module _ (m : Nights) (lies : ℕ → ℕ → Bool) (lasting : Lasting (keepers_
 
   -- WHICH DRAWS ARE MOVED
   not_over : (t h : ℕ) → t < m.many → Honest (at Q t) h → over m t h ≡ over_at m t
-  not_over t h s hh = over_is m lies lasting plays.set t h s hh (eves m lies lasting plays.set plays.born t h s hh)
+  not_over t h s hh = over_is m lies lasting plays.fixed t h s hh (eves m lies lasting plays.fixed plays.born t h s hh)
 
   real_if : (t h : ℕ) → t < m.many → Honest (at Q t) h → (t ≡ 0) ⊎ (over m t h ≡ true) → R t ≡ true
   real_if t h s hh o = ap (λ b. b && (eqb t 0 || over_at m t)) (lt-ltb t m.many s) ∙ ⊎_elim (λ e. ap (λ b. b || over_at m t) (eq-eqb t 0 e)) (λ e. ap (λ b. eqb t 0 || b) (sym (not_over t h s hh) ∙ e) ∙ either (eqb t 0)) o

@@ -94,7 +94,7 @@ module _ (m : Nights) (lies : ℕ → ℕ → Bool) (lasting : Lasting (keepers_
       soon = ltb-true t m.many (and_left (ltb t m.many) (eqb t 0 || over_at m t) e)
 
       by : (b : Bool) → (b ≡ true → t ≡ 0) → (b || over_at m t) ≡ true → m.calls t ≡ 6
-      by true h q = let z : 0 < m.many = omega (arith, soon, h refl) in ap m.calls (h refl) ∙ plays.set.first z
+      by true h q = let z : 0 < m.many = omega (arith, soon, h refl) in ap m.calls (h refl) ∙ plays.fixed.first z
       by false h q = eqb-true (m.calls t) 6 (and_left (eqb (m.calls t) 6) _ q)
 
   -- the dealings as they happened, else with nobody lying
@@ -113,7 +113,7 @@ module _ (m : Nights) (lies : ℕ → ℕ → Bool) (lasting : Lasting (keepers_
     k = sitting m t d
 
     pub played : (i : ℕ) → Honest (at K t) i → Played k (lies t) (play_of m t d) i
-    played i hi = plays_keep_lem k (possible m lies lasting plays.set plays.born few t d soon deals) (lies t) (play_of m t d) (plays_apart m lies lasting plays few t d soon whole deals) i hi
+    played i hi = plays_keep_lem k (possible m lies lasting plays.fixed plays.born few t d soon deals) (lies t) (play_of m t d) (plays_apart m lies lasting plays few t d soon whole deals) i hi
 
     pub same_posts : (i j : ℕ) → Honest (at K t) i → Honest (at K t) j → (play.after k (play_of m t d) 5 i).posts ≡ (play.after k (play_of m t d) 5 j).posts
     same_posts i j hi hj = (played i hi).same j hj
@@ -122,7 +122,7 @@ module _ (m : Nights) (lies : ℕ → ℕ → Bool) (lasting : Lasting (keepers_
     same_overall i hi = ap (read_off (play.setting_of k) (λ j. (play.after k (play_of m t d) 5 j).hand)) (same_posts i (guide t) hi (guide_honest t))
 
     pub drawn_exact : Honest (at K t) d → Exact2 p (m.f + 1) (low_of m.f t) (rows_of m t d)
-    drawn_exact hd = let q = plays.set.draws t d soon hd deals in rows_exact (low_of m.f t) (m.f + 1) (m.draws t d) q.0 q.1
+    drawn_exact hd = let q = plays.fixed.draws t d soon hd deals in rows_exact (low_of m.f t) (m.f + 1) (m.draws t d) q.0 q.1
 
     pub happened_fair : Honest (at K t) d → Fair (at K t) (m.f + 1) (low_of m.f t) (rows_of m t d) (happened t d)
     happened_fair hd = (played (guide t) (guide_honest t)).fair (rows_of m t d) refl (drawn_exact hd) hd
@@ -157,11 +157,11 @@ module _ (m : Nights) (lies : ℕ → ℕ → Bool) (lasting : Lasting (keepers_
   -- WHAT IS KEPT of each dealing
   module _ (t i : ℕ) (soon : t < m.many) (whole : m.calls t ≡ 6) (hi : Honest (at K t) i) (d : ℕ) (deals : d < dealers_of m.f t) where
     pub kept_is : get_or (map (decided_at (within m t 5 i)) (range_with_len 0 16)) d None ≡ when (is_accepted (at K t) (happened t d)) (value p (own (happened t d) i).across 0)
-    kept_is = kept_at m lies plays.set t i soon hi (eves m lies lasting plays.set plays.born t i soon hi) few d deals ∙ (played t d soon whole deals i hi).keeps
+    kept_is = kept_at m lies plays.fixed t i soon hi (eves m lies lasting plays.fixed plays.born t i soon hi) few d deals ∙ (played t d soon whole deals i hi).keeps
         ∙ ap₂ (λ q (e : Dealing). when (accepted (play.setting_of (sitting m t d)) q) (value p (own e i).across 0)) (same_posts t d soon whole deals i (guide t) hi (guide_honest t)) (same_overall t d soon whole deals i hi)
 
     pub kept_last_is : get_or (within m t 6 i).kept d None ≡ when (is_accepted (at K t) (happened t d)) (value p (own (happened t d) i).across 0)
-    kept_last_is = ap (λ l. get_or l d None) (kept_last m lies plays.set t i soon hi (eves m lies lasting plays.set plays.born t i soon hi)) ∙ kept_is
+    kept_last_is = ap (λ l. get_or l d None) (kept_last m lies plays.fixed t i soon hi (eves m lies lasting plays.fixed plays.born t i soon hi)) ∙ kept_is
 
   -- WHAT THE COURTS HOLD
   module _ (ch : ℕ → ℕ → List (List ℕ)) (i : ℕ) (given : (begins m 1 i).value ≡ None → ⊥) where
@@ -169,16 +169,16 @@ module _ (m : Nights) (lies : ℕ → ℕ → Bool) (lasting : Lasting (keepers_
     r = run ch
 
     ends_at : (t : ℕ) (soon : t < m.many) (hi : Honest (at K t) i) → (begins m (suc t) i).value ≡ cond (over_at m t) (renewed (within m t (m.calls t) i)) (begins m t i).value
-    ends_at t soon hi = ends m lies lasting plays.set t i soon hi (eves m lies lasting plays.set plays.born t i soon hi)
+    ends_at t soon hi = ends m lies lasting plays.fixed t i soon hi (eves m lies lasting plays.fixed plays.born t i soon hi)
 
     -- in night 0
     module _ (soon : 0 < m.many) (hi : Honest (at K 0) i) where
       kept_0 : (play.at_call (sitting m 0 0) (play_of m 0 0) 5 i).kept ≡ when (is_accepted (at K 0) (happened 0 0)) (value p (own (happened 0 0) i).across 0)
-      kept_0 = sym (kept_at m lies plays.set 0 i soon hi (eves m lies lasting plays.set plays.born 0 i soon hi) few 0 (omega arith)) ∙ kept_is 0 i soon (plays.set.first soon) hi 0 (omega arith)
+      kept_0 = sym (kept_at m lies plays.fixed 0 i soon hi (eves m lies lasting plays.fixed plays.born 0 i soon hi) few 0 (omega arith)) ∙ kept_is 0 i soon (plays.fixed.first soon) hi 0 (omega arith)
 
       value_0 : (begins m 1 i).value ≡ Some (held K r 0 i)
       unfolding held gain
-      value_0 = go (over_at m 0) (is_accepted (at K 0) (happened 0 0)) (value_small (own (happened 0 0) i).across 0) (first_value m lies lasting plays.set few i soon hi ∙ ap (λ o. cond (over_at m 0) o None) kept_0) ∙ ap Some held_0
+      value_0 = go (over_at m 0) (is_accepted (at K 0) (happened 0 0)) (value_small (own (happened 0 0) i).across 0) (first_value m lies lasting plays.fixed few i soon hi ∙ ap (λ o. cond (over_at m 0) o None) kept_0) ∙ ap Some held_0
         where
           v : ℕ
           v = value p (own (happened 0 0) i).across 0
@@ -231,7 +231,7 @@ module _ (m : Nights) (lies : ℕ → ℕ → Bool) (lasting : Lasting (keepers_
 
         renewed_as : (v : ℕ) → (begins m (suc t) i).value ≡ Some v → renewed (within m (suc t) (m.calls (suc t)) i) ≡ Some ((v + point i * gain (at K (suc t)) (r.deal (suc t)) (dealers K (suc t)) i) % p)
         renewed_as v e =
-            let s = here m lies lasting plays.set (suc t) i soon hi (eves m lies lasting plays.set plays.born (suc t) i soon hi) 6 (omega arith) in
+            let s = here m lies lasting plays.fixed (suc t) i soon hi (eves m lies lasting plays.fixed plays.born (suc t) i soon hi) 6 (omega arith) in
             let c = within m (suc t) 6 i in
             ap (λ n. renewed (within m (suc t) n i)) all_six
             ∙ ap (λ n. cond (eqb n 0) (get_or kept 0 None) (option_map (λ v. (v + point c.me * gains kept (members c)) % p) c.value)) s.night
@@ -256,7 +256,7 @@ module _ (m : Nights) (lies : ℕ → ℕ → Bool) (lasting : Lasting (keepers_
 
     pub values_are : (t : ℕ) → t < m.many → Honest (at K t) i → (begins m (suc t) i).value ≡ Some (held K r t i)
     values_are zero soon hi = value_0 soon hi
-    values_are (suc t) soon hi = value_next t soon hi (values_are t (omega arith) (honest_before m lies lasting plays.set t i hi))
+    values_are (suc t) soon hi = value_next t soon hi (values_are t (omega arith) (honest_before m lies lasting plays.fixed t i hi))
 
   -- what is drawn, and nothing where nothing counts
   abbrev pub base : (t d : ℕ) → List (List ℕ)

@@ -1,5 +1,5 @@
 -- A night in which what is said comes in time is over.
-use Rattle.std.proofs.Common.{◌≡◌, ℕ, zero, suc, ◌+◌, ◌*◌, ◌<◌, ◌≤◌, Bool, true, false, cond, not, ◌&&◌, T, eqb, ltb, leb, List, [], ◌∷◌, length, get_or, set, replicate, Some, None, Option, sym, refl, ap, ◌∙◌, ap₂, true≢false, arith, length-set, get_or-set_same, lt-ltb, eq-eqb, eqb-true, le-leb}
+use Rattle.std.proofs.Common.{◌≡◌, ℕ, zero, suc, ◌+◌, ◌*◌, ◌<◌, ◌≤◌, Bool, true, false, cond, not, ◌&&◌, T, eqb, ltb, leb, List, [], ◌∷◌, length, get_or, set, replicate, Some, None, Option, sym, refl, ap, ◌∙◌, ap₂, subst, true≢false, arith, length-set, get_or-set_same, lt-ltb, eq-eqb, eqb-true, le-leb}
 use mathlib.Core.Bool.{false≢true}
 use mathlib.Core.List.{foldl}
 use Rattle.algebra.specs.Counting.{count}
@@ -11,9 +11,12 @@ use Rattle.rules.specs.Seat.{unless}
 use Rattle.rules.proofs.Reading.{parse-wire}
 use Rattle.nights.specs.Run.{Lasting, at}
 use Rattle.courts.specs.Court.{low_of}
-use Rattle.courts.specs.Nights.{Nights, Called, Born, keepers_of, posts}
-use Rattle.courts.proofs.Public.{ended, marked, mark, finished_at, over_at}
+use Rattle.courts.specs.Nights.{Nights, Called, Born, Plays, keepers_of, posts}
+use Rattle.courts.specs.Promise.{Liars, OverInTime, over}
+use Rattle.courts.proofs.Eves.{eves}
+use Rattle.courts.proofs.Public.{ended, marked, mark, finished_at, over_at, over_is}
 use Rattle.courts.proofs.Apart.{last_posts}
+use Rattle.courts.proofs.Whole.{lasting_of}
 
 -- a mark stays
 set_true : (fs : List Bool) (k i : ℕ) → get_or fs i false ≡ true → get_or (set fs k true) i false ≡ true
@@ -91,11 +94,11 @@ unfolding finished_at
 long_at m t zero = all_long m.f t 0 (m.board t 0) (replicate 16 false) refl
 long_at m t (suc r) = all_long m.f t (suc r) (m.board t (suc r)) (finished_at m t r) (long_at m t r)
 
-module _ (m : Nights) (lies : ℕ → ℕ → Bool) (lasting : Lasting (keepers_of m lies)) (set' : Called m lies) (born : Born m lies) (few : m.f ≤ 5) (liars : (t : ℕ) → count (3 * m.f + 1) (lies t) ≤ m.f)
+module _ (m : Nights) (lies : ℕ → ℕ → Bool) (lasting : Lasting (keepers_of m lies)) (fixed : Called m lies) (born : Born m lies) (few : m.f ≤ 5) (liars : (t : ℕ) → count (3 * m.f + 1) (lies t) ≤ m.f)
     (t : ℕ) (soon : t < m.many) (whole : m.calls t ≡ 6) (timely : (i : ℕ) → Honest (at (keepers_of m lies) t) i → words_by i (m.board t 6) ≡ posts m t 5 i) where
   done : (i : ℕ) → i < 3 * m.f + 1 → lies t i ≡ false → get_or (finished_at m t 6) i false ≡ true
   unfolding finished_at
-  done i h l = marked_in m.f t i few (omega (arith, set'.few)) h (m.board t 6) (finished_at m t 5) (long_at m t 5) (timely i hi ∙ last_posts m lies lasting set' born t i soon hi)
+  done i h l = marked_in m.f t i few (omega (arith, fixed.few)) h (m.board t 6) (finished_at m t 5) (long_at m t 5) (timely i hi ∙ last_posts m lies lasting fixed born t i soon hi)
     where
       hi : Honest (at (keepers_of m lies) t) i
       hi = ((h, tt), λ q. true≢false (sym (T_true (lies t i) q) ∙ l))
@@ -107,3 +110,15 @@ module _ (m : Nights) (lies : ℕ → ℕ → Bool) (lasting : Lasting (keepers_
   pub over_timely : over_at m t ≡ true
   over_timely = ap (λ r. eqb r 6 && leb (2 * m.f + 1) (count (3 * m.f + 1) (λ i. get_or (finished_at m t r) i false))) whole
       ∙ le-leb (2 * m.f + 1) (count (3 * m.f + 1) (λ i. get_or (finished_at m t 6) i false)) (omega (arith, liars t, counted (3 * m.f + 1) (lies t) (λ i. get_or (finished_at m t 6) i false) done))
+
+module _ (m : Nights) (lies : ℕ → ℕ → Bool) where
+  abbrev Over : ℕ → Type 0
+  Over f = f ≤ 5 → Liars f lies → Plays m lies → (t : ℕ) → t < m.many → m.calls t ≡ 6 → ((i : ℕ) → Honest (at (keepers_of m lies) t) i → words_by i (m.board t 6) ≡ posts m t 5 i) →
+      (h : ℕ) → Honest (at (keepers_of m lies) t) h → over m t h ≡ true
+
+  in_time : Over m.f
+  in_time few liars plays t soon whole timely h hh = let l = lasting_of m.f few lies liars in
+      over_is m lies l plays.fixed t h soon hh (eves m lies l plays.fixed plays.born t h soon hh) ∙ over_timely m lies l plays.fixed plays.born few liars.few t soon whole timely
+
+pub over_in_time_lem : OverInTime
+over_in_time_lem f few lies liars m e plays = subst (Over m lies) e (in_time m lies) few liars plays

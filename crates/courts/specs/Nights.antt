@@ -58,7 +58,7 @@ posts m t r i = map wire (posts_of (called m t r i))
 abbrev pub keepers_of : Nights → (lies : ℕ → ℕ → Bool) → Keepers
 keepers_of m lies = record { p = p; f = m.f; lies = lies }
 
--- WHAT IS SET, whatever the courts say.
+-- WHAT IS FIXED, whatever the courts say.
 pub record Called (m : Nights) (lies : ℕ → ℕ → Bool) : Type 0 where
   -- no night comes after night 4,294,967,295; from one to six rounds are called in a night, in the first all
   pub few : m.many ≤ 4294967296
@@ -75,7 +75,7 @@ Born m lies = 1 < m.many → (i : ℕ) → Honest (at (keepers_of m lies) 0) i �
 
 -- THE RULES, for the keepers that keep them; lies: by night, who doesn't. Everything else is free: any bytes by liars to anybody, different to each, any lines of theirs on the board, all in any order.
 pub record Plays (m : Nights) (lies : ℕ → ℕ → Bool) : Type 0 where
-  pub set : Called m lies
+  pub fixed : Called m lies
   pub born : Born m lies
   -- what a court says when a round is called comes, in order and as it is, before the next is called
   pub mails : (t r i j : ℕ) → t < m.many → suc r < m.calls t → Honest (at (keepers_of m lies) t) i → words_by i (mail_of (m.lines t (suc r) j)) ≡ sends m t r i j
