@@ -9,7 +9,7 @@ use Rattle.algebra.proofs.Same.{Same, rest, back, equal, so, mirror, ◌⊞◌, 
 use Rattle.algebra.proofs.Evaluation.{down, eval, value_is, add, eval_add, length-add}
 use Rattle.algebra.proofs.Rows.{value2_is, row, row_is, length-row}
 use Rattle.algebra.proofs.Members.{those, length-those, those_all, those-differ}
-use Rattle.nights.proofs.One.{had_back}
+use Rattle.nights.proofs.One.{had_back_lem}
 use Rattle.rules.proofs.Dealt.{honest_if, main}
 use Rattle.algebra.proofs.Coefficients.{first_is, exact_first}
 use Rattle.rules.proofs.Drawn.{of_share}
@@ -97,7 +97,7 @@ module _ (k : Keepers) (lasting : Lasting k) (r : Run) (keeps : Keeps k r) where
 
   back_to : (t : ℕ) (said : ℕ → ℕ) → ((i : ℕ) → Honest (at k t) i → said i ≡ held k r t i) → (cs a : List ℕ) → Low (k.f + 1) cs → Misses (at k t) cs said a → value k.p cs 0 ≡ s
   back_to t said h cs a l m = let d = day t in
-      had_back (at k t) (lasting.sound t) cs d.0 l d.1 said a (those (size (at k t)) (away (at k t))) m (trust t d.0 said (λ i o. sym (h i o ∙ d.3 i o))) 0 ∙ d.2
+      had_back_lem (at k t) (lasting.sound t) cs d.0 l d.1 said a (those (size (at k t)) (away (at k t))) m (trust t d.0 said (λ i o. sym (h i o ∙ d.3 i o))) 0 ∙ d.2
 
   drawn : Honest (at k 0) 0 → s ≡ value2 k.p (r.chance 0 0) 0 0
   unfolding held gain

@@ -17,8 +17,8 @@ one g sound k room cs ds lc ld who d enough inside h x =
     p : ℕ
     p = g.p
 
-pub had_back : HadBack
-had_back g sound cs ds lc ld said a b ma mb x =
+pub had_back_lem : HadBack
+had_back_lem g sound cs ds lc ld said a b ma mb x =
     one g sound (g.f + 1) (omega arith) cs ds lc ld w.kept w.differ (omega (arith, w.enough, length-upto (size g), length-append a b, ma.2, mb.2)) below
     (λ i m. ma.1 i (below i m) (λ n. (w.from i m).1 (Memᴰ.append_left b n)) ∙ sym (mb.1 i (below i m) (λ n. (w.from i m).1 (Memᴰ.append_right a n)))) x
   where

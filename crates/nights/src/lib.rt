@@ -1,7 +1,7 @@
 // All nights, and what follows from the rules. Each function below stands for a theorem, which is its contract; it computes nothing.
 #![tactic(auto)]
 
-ghost use Rattle.nights.specs.Promise.{CanBeKept, CanPlay, PlaysKeeps, Theorem, TheoremOfNights};
+ghost use Rattle.nights.specs.Promise.{CanBeKept, CanPlay, HadBack, OnePolynomial, PlaysKeeps, Theorem, TheoremOfNights};
 
 // Through all nights the secret stays, can be had back, and is hidden.
 pub fn theorem()
@@ -26,4 +26,14 @@ pub fn theorem_of_nights()
 // There are such nights, whatever liars say.
 pub fn can_play()
     ensures { CanPlay }
+{}
+
+// Two polynomials of low degree that agree at enough keepers are one.
+pub fn one_polynomial()
+    ensures { OnePolynomial }
+{}
+
+// Two that all but f values lie on are one.
+pub fn had_back()
+    ensures { HadBack }
 {}
