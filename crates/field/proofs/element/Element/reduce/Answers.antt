@@ -1,6 +1,6 @@
 use Rattle.std.proofs.Common.{arith}
 use lib.Bits.{and_mask}
-use Rattle.field.proofs.residue.reduce.Goals as goal
+use Rattle.field.proofs.element.Element.reduce.Goals as goal
 
 pub once-requires : goal.once-requires
 once-requires c = omega (arith, and_mask c.args.n 61)
