@@ -1,7 +1,7 @@
 -- A row of numbers, read and written place by place.
-use Rattle.std.proofs.Common.{◌≡◌, ℕ, zero, suc, ◌+◌, ◌*◌, ◌<◌, true, false, List, [], ◌∷◌, ◌++◌, length, get_or, take, set, ltb, sym, refl, ap, ◌∙◌, append_assoc, append-nil, add-zero, add-one, arith}
+use Rattle.std.proofs.Common.{◌≡◌, ℕ, zero, suc, ◌+◌, ◌*◌, ◌<◌, true, false, List, [], ◌∷◌, ◌++◌, length, get_or, take, drop, set, ltb, sym, refl, ap, ◌∙◌, add-zero, add-one, arith}
 use Rattle.std.specs.Int.{to_be_bytes, w64}
-use Rattle.std.proofs.lemmas.List.{take_more_set, map_push, map_more}
+use Rattle.std.proofs.lemmas.List.{take_more_set, map_push, at_drop_more}
 use Rattle.std.proofs.lemmas.Bool.Decides.{nat_tests}
 use Rattle.algebra.specs.Prime.{p}
 use Rattle.field.specs.declared.element.Element.{Element}
@@ -45,15 +45,6 @@ pub be8_bytes : (n : ℕ) → to_be_bytes w64 n ≡ be8 n
 unfolding be8
 be8_bytes n = refl
 
-row_append : (xs ys : List ℕ) → row (xs ++ ys) ≡ row xs ++ row ys
+pub row_first : (cs : List Element) (i : ℕ) (e : Element) → i < length cs → e ≡ get_or cs i e → row (numbers (drop i cs)) ≡ be8 e.value ++ row (numbers (drop (i + 1) cs))
 unfolding row
-row_append [] ys = refl
-row_append (x ∷ xs) ys = ap (λ l. be8 x ++ l) (row_append xs ys) ∙ sym (append_assoc (be8 x) (row xs) (row ys))
-
-pub row_more : (cs : List Element) (i : ℕ) (e : Element) → i < length cs → e ≡ get_or cs i e → row (numbers (take (i + 1) cs)) ≡ row (numbers (take i cs)) ++ be8 e.value
-unfolding row
-row_more cs i e h is =
-    let e0 = map_more (λ (c : Element). c.value) cs i e h in
-    let e1 = row_append (numbers (take i cs)) (e.value ∷ []) in
-    let e2 = append-nil (be8 e.value) in
-    cc
+row_first cs i e h is = at_drop_more (λ es. row (numbers es)) cs i e h ∙ ap (λ (x : Element). be8 x.value ++ row (numbers (drop (i + 1) cs))) (sym is)

@@ -29,8 +29,8 @@ struct Frame<'a> {
 }
 
 impl Frame<'_> {
-    // Are the bytes so many?
-    fn has(&self, len: usize) -> Result<(), Malformed>
+    // The bytes are so many.
+    fn check_len(&self, len: usize) -> Result<(), Malformed>
         ensures { MatchResult result (λ _. length self.now.bytes.now ≡ len) (λ _. length self.now.bytes.now ≢ len) }
     {
         if self.bytes.len() != len {
@@ -115,7 +115,7 @@ impl Frame<'_> {
     fn share(&self) -> Result<Body, Malformed>
         ensures { Reads self.now.head result (read_share self.now.shape.high self.now.shape.low self.now.bytes.now self.now.head.night self.now.head.dealer) }
     {
-        self.has(6 + self.share_len())?;
+        self.check_len(6 + self.share_len())?;
         let share = self.share_at(6)?;
         Ok(Body::Share(share))
     }
@@ -123,7 +123,7 @@ impl Frame<'_> {
     fn told(&self) -> Result<Body, Malformed>
         ensures { Reads self.now.head result (read_told self.now.bytes.now self.now.head.night self.now.head.dealer) }
     {
-        self.has(22)?;
+        self.check_len(22)?;
         let pair = self.pair_at(6)?;
         Ok(Body::Told(pair))
     }
@@ -131,7 +131,7 @@ impl Frame<'_> {
     fn complaint(&self) -> Result<Body, Malformed>
         ensures { Reads self.now.head result (read_complaint self.now.keepers self.now.bytes.now self.now.head.night self.now.head.dealer) }
     {
-        self.has(24)?;
+        self.check_len(24)?;
         let by = self.keeper_at(6)?;
         let about = self.keeper_at(7)?;
         let pair = self.pair_at(8)?;
@@ -141,7 +141,7 @@ impl Frame<'_> {
     fn reveal(&self) -> Result<Body, Malformed>
         ensures { Reads self.now.head result (read_reveal self.now.keepers self.now.shape.high self.now.shape.low self.now.bytes.now self.now.head.night self.now.head.dealer) }
     {
-        self.has(7 + self.share_len())?;
+        self.check_len(7 + self.share_len())?;
         let keeper = self.keeper_at(6)?;
         let share = self.share_at(7)?;
         Ok(Body::Reveal { keeper, share })
@@ -150,7 +150,7 @@ impl Frame<'_> {
     fn fine(&self) -> Result<Body, Malformed>
         ensures { Reads self.now.head result (read_fine self.now.keepers self.now.bytes.now self.now.head.night self.now.head.dealer) }
     {
-        self.has(8)?;
+        self.check_len(8)?;
         let keeper = self.keeper_at(6)?;
         let fine = match self.bytes[7] {
             0 => false,
@@ -163,7 +163,7 @@ impl Frame<'_> {
     fn finished(&self) -> Result<Body, Malformed>
         ensures { Reads self.now.head result (read_finished self.now.keepers self.now.bytes.now self.now.head.night self.now.head.dealer) }
     {
-        self.has(7)?;
+        self.check_len(7)?;
         let keeper = self.keeper_at(6)?;
         if self.head.dealer != 0 {
             return Err(Malformed);
@@ -174,7 +174,7 @@ impl Frame<'_> {
     fn value(&self) -> Result<Body, Malformed>
         ensures { Reads self.now.head result (read_value self.now.keepers self.now.bytes.now self.now.head.night self.now.head.dealer) }
     {
-        self.has(15)?;
+        self.check_len(15)?;
         let keeper = self.keeper_at(6)?;
         let value = self.element_at(7)?;
         if self.head.dealer != 0 {

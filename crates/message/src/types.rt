@@ -42,10 +42,10 @@ pub struct Malformed;
 impl fmt::Display for Malformed {
     ghost use Rattle.std.specs.Prelude.{Some, codes};
 
-    ghost output = { λ _. Some (codes "no message") };
+    ghost output = { λ _. Some (codes "malformed message") };
 
     fn fmt<W: fmt::Write>(&self, f: &mut fmt::Formatter<W>) -> fmt::Result {
-        f.write_str("no message")
+        f.write_str("malformed message")
     }
 }
 
