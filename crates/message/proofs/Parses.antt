@@ -1,9 +1,9 @@
 -- What it means that bytes are parsed, or are not.
-use Rattle.std.proofs.Common.{◌≡◌, ◌≢◌, ℕ, ◌<◌, ◌≤◌, List, length, get_or, Some, None, Result, MatchResult, arith}
+use Rattle.std.proofs.Common.{◌≡◌, ◌≢◌, ℕ, ◌<◌, ◌≤◌, List, length, get_or, Some, None, Result, MatchResult, Fits, w8, arith}
 use Rattle.std.proofs.lemmas.Result.{MatchResult-weaker}
 use Rattle.std.proofs.lemmas.Bool.Decides.{nat_tests}
 use Rattle.rules.specs.Message as rules
-use Rattle.rules.specs.Wire.{parse, by_kind, wire, InRange, Bytes, number4}
+use Rattle.rules.specs.Wire.{parse, by_kind, wire, InRange, number4}
 use Rattle.rules.proofs.Reading.{reads_what_is_written_lem}
 use Rattle.message.specs.declared.kind.Kind.{Kind}
 use Rattle.message.specs.declared.kind.Kind.TheVariants as kind
@@ -14,14 +14,7 @@ use Rattle.message.specs.Model.{byte_of, message_of}
 module _ (n high low : ℕ) (bs : List ℕ) where
   pub no_kind : (byte night dealer : ℕ) → ((k : Kind) → byte_of k ≢ byte) → by_kind n high low bs byte night dealer ≡ None
   no_kind byte night dealer other =
-      let e1 : 1 ≢ byte = other kind.Share in
-      let e2 : 2 ≢ byte = other kind.Told in
-      let e3 : 3 ≢ byte = other kind.Complaint in
-      let e4 : 4 ≢ byte = other kind.Reveal in
-      let e5 : 5 ≢ byte = other kind.Fine in
-      let e6 : 6 ≢ byte = other kind.Finished in
-      let e7 : 7 ≢ byte = other kind.Value in
-      grind (arith, nat_tests)
+      grind (arith, nat_tests, other kind.Share, other kind.Told, other kind.Complaint, other kind.Reveal, other kind.Fine, other kind.Finished, other kind.Value)
 
   pub too_short : length bs < 6 → parse n high low bs ≡ None
   unfolding parse
@@ -35,9 +28,12 @@ module _ (n high low : ℕ) (bs : List ℕ) where
   unfolding parse
   whole h lt = grind (arith, nat_tests)
 
-  module _ (few : n < 256) (b : Bytes bs) where
+  module _ (few : Fits w8 n) (b : (i : ℕ) → Fits w8 (get_or bs i 0)) where
+    as_written : (m : rules.Message) → (parse n high low bs ≡ Some m → (bs ≡ wire m) × InRange n high low m) × ((bs ≡ wire m) × InRange n high low m → parse n high low bs ≡ Some m)
+    as_written = reads_what_is_written_lem n high low few.fits bs (λ i. (b i).fits)
+
     no_message : parse n high low bs ≡ None → (m : rules.Message) → InRange n high low m → bs ≢ wire m
-    no_message none m w is = let some = (reads_what_is_written_lem n high low few bs b m).1 (is, w) in cc
+    no_message none m w is = let some = (as_written m).1 (is, w) in cc
 
     abbrev pub Parsed : Result Message Malformed → Type 0
     Parsed r = MatchResult r (λ m. parse n high low bs ≡ Some (message_of m)) (λ _. parse n high low bs ≡ None)
@@ -49,5 +45,5 @@ module _ (n high low : ℕ) (bs : List ℕ) where
     }
     both r h = record {
       parses = h;
-      written = MatchResult-weaker r h (λ m. (reads_what_is_written_lem n high low few bs b (message_of m)).0) (λ _. no_message);
+      written = MatchResult-weaker r h (λ m. (as_written (message_of m)).0) (λ _. no_message);
     }

@@ -27,18 +27,15 @@ read_more bs i k e cs lt same are =
 pub small_numbers : (cs : List Element) → small (numbers cs) ≡ true
 unfolding small
 small_numbers [] = refl
-small_numbers (c ∷ cs) = let rest = small_numbers cs in let first = c.reduced in grind (arith, nat_tests)
+small_numbers (c ∷ cs) = grind (arith, nat_tests, small_numbers cs, c.reduced)
 
 pub too_large : (bs : List ℕ) (i n k : ℕ) → k < n → ltb (number8 bs (i + 8 * k)) p ≡ false → small (row_at bs i n) ≡ false
 unfolding small row_at
 too_large bs i zero k lt big = absurd (omega arith)
-too_large bs i (suc n) zero lt big =
-    let first : number8 bs i ≡ number8 bs (i + 0) = ap (number8 bs) (sym (add-zero i)) in
-    grind (arith, nat_tests)
+too_large bs i (suc n) zero lt big = grind (arith, nat_tests)
 too_large bs i (suc n) (suc k) lt big =
     let there : i + 8 * suc k ≡ i + 8 + 8 * k = omega arith in
-    let rest = too_large bs (i + 8) n k (omega arith) (rw (← there) big) in
-    grind (arith, nat_tests)
+    grind (arith, nat_tests, too_large bs (i + 8) n k (omega arith) (rw (← there) big))
 
 -- WRITING. Its bytes, and one more number.
 pub be8_bytes : (n : ℕ) → to_be_bytes w64 n ≡ be8 n

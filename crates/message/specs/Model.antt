@@ -10,6 +10,7 @@ use Rattle.message.specs.declared.types.Head.{Head}
 use Rattle.message.specs.declared.types.Malformed.{Malformed}
 use Rattle.message.specs.declared.types.Message.{Message}
 
+-- a body under a head
 abbrev pub with_head : Head → Body → rules.Message
 with_head h (body.Share x) = rules.Share h.night h.dealer (held x)
 with_head h (body.Told a) = rules.Told h.night h.dealer (said a)

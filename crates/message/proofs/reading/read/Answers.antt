@@ -5,12 +5,12 @@ use Rattle.message.proofs.Parses.{too_short, no_dealer, whole, both}
 use Rattle.message.proofs.reading.read.Goals as goal
 
 pub returns-then-bytes-lt6 : goal.returns-then-bytes-lt6
-returns-then-bytes-lt6 c = both _ _ _ _ c.ranges.keepers.fits (λ i. (c.type_inv.bytes i).fits) (Err _) (search (rules, too_short, no_dealer))
+returns-then-bytes-lt6 c = both _ _ _ _ c.ranges.keepers c.type_inv.bytes (Err _) (search (rules, too_short, no_dealer))
 
 pub returns-in_err-body : goal.returns-in_err-body
 unfolding number4
-returns-in_err-body c = both _ _ _ _ c.ranges.keepers.fits (λ i. (c.type_inv.bytes i).fits) _ (search (rules, whole, get_or-between))
+returns-in_err-body c = both _ _ _ _ c.ranges.keepers c.type_inv.bytes _ (search (rules, whole, get_or-between))
 
 pub returns : goal.returns
 unfolding number4
-returns c = both _ _ _ _ c.ranges.keepers.fits (λ i. (c.type_inv.bytes i).fits) (Ok _) (search (rules, whole, get_or-between))
+returns c = both _ _ _ _ c.ranges.keepers c.type_inv.bytes (Ok _) (search (rules, whole, get_or-between))
