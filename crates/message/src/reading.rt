@@ -64,7 +64,7 @@ impl Frame<'_> {
         requires { place + 8 ≤ length self.now.bytes.now }
         ensures { Gives (λ e. e.value) result (nat_lt (number8 self.now.bytes.now place) p) (number8 self.now.bytes.now place) }
     {
-        Element::new(self.number_at(place)).ok_or(Malformed)
+        Ok(Element::try_from(self.number_at(place))?)
     }
 
     // A row of so many numbers, if each is below P.

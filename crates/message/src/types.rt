@@ -1,5 +1,5 @@
 // The messages, a variant of the body for each first byte.
-use field::Element;
+use field::{Element, OutOfRange};
 use polynomial::{Pair, Share};
 use std::error::Error;
 use std::fmt;
@@ -11,13 +11,13 @@ pub struct Head {
     pub dealer: u8,
 }
 
-#[derive(Clone, Copy)]
+#[derive(Clone, Copy, Debug, PartialEq, Eq)]
 pub struct Message {
     pub head: Head,
     pub body: Body,
 }
 
-#[derive(Clone, Copy)]
+#[derive(Clone, Copy, Debug, PartialEq, Eq)]
 pub enum Body {
     // To one keeper: its share.
     Share(Share),
@@ -50,3 +50,9 @@ impl fmt::Display for Malformed {
 }
 
 impl Error for Malformed {}
+
+impl From<OutOfRange> for Malformed {
+    fn from(_: OutOfRange) -> Malformed {
+        Malformed
+    }
+}

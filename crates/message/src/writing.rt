@@ -14,7 +14,7 @@ fn put_row(out: &mut Vec<u8>, elements: &[Element]) -> Result<(), AllocError>
     ensures { OnOk result (out.new.items ≡ out.old.items ++ row (numbers elements.now)) }
 {
     for element in elements {
-        out.extend_from_slice(&element.value().to_be_bytes())?;
+        out.extend_from_slice(&u64::from(*element).to_be_bytes())?;
     }
     Ok(())
 }
@@ -61,7 +61,7 @@ pub fn write(heap: Global, message: &Message) -> Result<Vec<u8>, AllocError>
         Body::Finished { keeper } => out.push(keeper)?,
         Body::Value { keeper, value } => {
             out.push(keeper)?;
-            out.extend_from_slice(&value.value().to_be_bytes())?;
+            out.extend_from_slice(&u64::from(value).to_be_bytes())?;
         }
     }
     Ok(out)
