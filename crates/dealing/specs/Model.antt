@@ -4,6 +4,7 @@ use Rattle.std.specs.Option.{option_map}
 use Rattle.algebra.specs.Prime.{p}
 use Rattle.polynomial.specs.Lists.{held, said, rows_of}
 use Rattle.field.specs.declared.element.Element.{Element}
+use Rattle.rules.specs.Message.{Message}
 use Rattle.rules.specs.Rounds as rounds
 use Rattle.rules.specs.Seat as rules
 use Rattle.dealing.specs.declared.types.Round.{Round}
@@ -50,7 +51,19 @@ number e = e.value
 abbrev pub state_of : Seat → rules.State
 state_of s = record { round = round_of s.round; chance = option_map rows_of s.chance; hand = hand_of s.hand; posts = posts_of s.board; kept = option_map number s.kept }
 
+-- the number of the refusal, if a message is turned away
+abbrev pub refused : Result (Unit {0}) Refusal → Option ℕ
+refused (Ok _) = None
+refused (Err why) = Some (number_of why)
+
 -- What comes of a message: the state that the rules give; or, refused with the number that they give, the seat as it was.
 abbrev pub Answered : (before : Seat) → (ruled : rules.State × Option ℕ) → (after : Seat) → Result (Unit {0}) Refusal → Type 0
 Answered before ruled after (Ok _) = (state_of after ≡ ruled.0) × (ruled.1 ≡ None) × (after.terms ≡ before.terms)
 Answered before ruled after (Err why) = (after ≡ before) × (ruled.1 ≡ Some (number_of why))
+
+-- the same of a message by a keeper: what comes of mail, and of a line of the board
+abbrev pub Heard : (before : Seat) → (from : ℕ) → Message → (after : Seat) → Result (Unit {0}) Refusal → Type 0
+Heard before from m after result = Answered before (rules.answer (rules.mail_refusal (terms_of before.terms) (state_of before) from m) (rules.mail_noted (state_of before) from m) (state_of before)) after result
+
+abbrev pub Posted : (before : Seat) → (who : ℕ) → Message → (after : Seat) → Result (Unit {0}) Refusal → Type 0
+Posted before who m after result = Answered before (rules.answer (rules.board_refusal (terms_of before.terms) (state_of before) who m) (rules.board_noted (state_of before) who m) (state_of before)) after result

@@ -19,7 +19,8 @@ impl Terms {
         if f > 5 || dealer >= 3 * f + 1 || me >= 3 * f + 1 {
             return None;
         }
-        if shape.high() > f as usize + 1 || shape.low() > f as usize + 1 {
+        let most = usize::from(f) + 1;
+        if shape.high() > most || shape.low() > most {
             return None;
         }
         Some(Terms {

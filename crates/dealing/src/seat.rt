@@ -1,9 +1,9 @@
 // A seat in a dealing, message by message.
-ghost use Rattle.dealing.specs.Model.{Answered, round_of, state_of, terms_of};
+ghost use Rattle.dealing.specs.Model.{Answered, Heard, Posted, refused, round_of, state_of, terms_of};
 ghost use Rattle.message.specs.Model.{message_of};
 ghost use Rattle.polynomial.specs.Lists.{held, rows_of, said};
 ghost use Rattle.rules.specs.Message as rules;
-ghost use Rattle.rules.specs.Seat.{answer, answer_to, board_bytes, board_noted, board_refusal, board_taken, complaint_to, judgement, line_of, mail_bytes, mail_noted, mail_refusal, mail_taken, mail_to, timely};
+ghost use Rattle.rules.specs.Seat.{answer_to, board_bytes, board_taken, complaint_to, judgement, line_of, mail_bytes, mail_taken, mail_to, timely, unless};
 ghost use Rattle.std.specs.Option.{option_map};
 ghost use Rattle.std.specs.Prelude.{◌≡◌, if◌then◌else◌, OnErr, Some, None, nat_eq};
 
@@ -19,22 +19,24 @@ impl Seat {
         night == self.terms.night && self.round == round
     }
 
-    fn hear_share(&mut self, from: u8, night: u32, dealer: u8, share: Share) -> Result<(), Refusal>
-        ensures {
-            let t = terms_of self.old.terms in
-            let st = state_of self.old in
-            let m = rules.Share night dealer (held share) in
-            Answered self.old (answer (mail_refusal t st from m) (mail_noted st from m) st) self.new result
-        }
+    // A message of this dealing, in its round.
+    fn expect(&self, round: Round, night: u32, dealer: u8) -> Result<(), Refusal>
+        ensures { refused result ≡ unless (timely (terms_of self.now.terms) (state_of self.now) night (round_of round)) 2 (unless (nat_eq dealer self.now.terms.dealer) 3 None) }
     {
-        if !self.timely(Round::Deal, night) {
+        if !self.timely(round, night) {
             return Err(Refusal::Untimely);
         }
-        if dealer != self.terms.dealer
-            || from != self.terms.dealer
-            || from == self.terms.me
-            || self.hand.share.is_some()
-        {
+        if dealer != self.terms.dealer {
+            return Err(Refusal::Unentitled);
+        }
+        Ok(())
+    }
+
+    fn hear_share(&mut self, from: u8, night: u32, dealer: u8, share: Share) -> Result<(), Refusal>
+        ensures { Heard self.old from (rules.Share night dealer (held share)) self.new result }
+    {
+        self.expect(Round::Deal, night, dealer)?;
+        if from != self.terms.dealer || from == self.terms.me || self.hand.share.is_some() {
             return Err(Refusal::Unentitled);
         }
         self.hand.share = Some(share);
@@ -42,20 +44,10 @@ impl Seat {
     }
 
     fn hear_told(&mut self, from: u8, night: u32, dealer: u8, pair: Pair) -> Result<(), Refusal>
-        ensures {
-            let t = terms_of self.old.terms in
-            let st = state_of self.old in
-            let m = rules.Told night dealer (said pair) in
-            Answered self.old (answer (mail_refusal t st from m) (mail_noted st from m) st) self.new result
-        }
+        ensures { Heard self.old from (rules.Told night dealer (said pair)) self.new result }
     {
-        if !self.timely(Round::Tell, night) {
-            return Err(Refusal::Untimely);
-        }
-        if dealer != self.terms.dealer
-            || from == self.terms.me
-            || self.hand.told_by(from).is_some()
-        {
+        self.expect(Round::Tell, night, dealer)?;
+        if from == self.terms.me || self.hand.told_by(from).is_some() {
             return Err(Refusal::Unentitled);
         }
         self.hand.tell(from, pair);
@@ -95,20 +87,13 @@ impl Seat {
         about: u8,
         pair: Pair,
     ) -> Result<(), Refusal>
-        ensures {
-            let t = terms_of self.old.terms in
-            let st = state_of self.old in
-            let m = rules.Complaint night dealer by about (said pair) in
-            Answered self.old (answer (board_refusal t st who m) (board_noted st who m) st) self.new result
-        }
+        ensures { Posted self.old who (rules.Complaint night dealer by about (said pair)) self.new result }
     {
         if about >= self.terms.keepers() {
             return Err(Refusal::Malformed);
         }
-        if !self.timely(Round::Complain, night) {
-            return Err(Refusal::Untimely);
-        }
-        if dealer != self.terms.dealer || by != who || self.board.complaint(who, about).is_some() {
+        self.expect(Round::Complain, night, dealer)?;
+        if by != who || self.board.complaint(who, about).is_some() {
             return Err(Refusal::Unentitled);
         }
         if by == about {
@@ -126,23 +111,13 @@ impl Seat {
         keeper: u8,
         share: Share,
     ) -> Result<(), Refusal>
-        ensures {
-            let t = terms_of self.old.terms in
-            let st = state_of self.old in
-            let m = rules.Reveal night dealer keeper (held share) in
-            Answered self.old (answer (board_refusal t st who m) (board_noted st who m) st) self.new result
-        }
+        ensures { Posted self.old who (rules.Reveal night dealer keeper (held share)) self.new result }
     {
         if keeper >= self.terms.keepers() {
             return Err(Refusal::Malformed);
         }
-        if !self.timely(Round::Reveal, night) {
-            return Err(Refusal::Untimely);
-        }
-        if dealer != self.terms.dealer
-            || who != self.terms.dealer
-            || self.board.revealed(keeper).is_some()
-        {
+        self.expect(Round::Reveal, night, dealer)?;
+        if who != self.terms.dealer || self.board.revealed(keeper).is_some() {
             return Err(Refusal::Unentitled);
         }
         if !self.complained(keeper) {
@@ -160,17 +135,10 @@ impl Seat {
         keeper: u8,
         fine: bool,
     ) -> Result<(), Refusal>
-        ensures {
-            let t = terms_of self.old.terms in
-            let st = state_of self.old in
-            let m = rules.Fine night dealer keeper fine in
-            Answered self.old (answer (board_refusal t st who m) (board_noted st who m) st) self.new result
-        }
+        ensures { Posted self.old who (rules.Fine night dealer keeper fine) self.new result }
     {
-        if !self.timely(Round::Judge, night) {
-            return Err(Refusal::Untimely);
-        }
-        if dealer != self.terms.dealer || keeper != who || self.board.said_fine(who).is_some() {
+        self.expect(Round::Judge, night, dealer)?;
+        if keeper != who || self.board.said_fine(who).is_some() {
             return Err(Refusal::Unentitled);
         }
         self.board.judge(keeper, fine);
