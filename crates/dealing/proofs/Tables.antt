@@ -10,4 +10,4 @@ place f (x ∷ xs) (suc i) d = place f xs i d
 pub row : {A B : Type 0} (f : A → B) (xs : List (List A)) (i : ℕ) → get_or (map (map f) xs) i [] ≡ map f (get_or xs i [])
 row f xs i = place (map f) xs i []
 
-pub ruleset written = (map-set, set_past, row)
+pub ruleset written = (map-set, row)

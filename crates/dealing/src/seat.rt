@@ -4,7 +4,7 @@ ghost use Rattle.message.specs.Model.{message_of};
 ghost use Rattle.polynomial.specs.Lists.{held, rows_of, said};
 ghost use Rattle.rules.specs.Message as rules;
 ghost use Rattle.rules.specs.Seat.{answer_to, board_bytes, board_taken, complaint_to, judgement, line_of, mail_bytes, mail_taken, mail_to, timely, unless};
-ghost use Rattle.std.specs.Option.{option_map};
+ghost use Rattle.std.specs.Option.{option_copied, option_map};
 ghost use Rattle.std.specs.Prelude.{◌≡◌, if◌then◌else◌, OnErr, Some, None, nat_eq};
 
 use crate::types::{Refusal, Round, Seat};
@@ -179,10 +179,10 @@ impl Seat {
     }
 
     // The polynomial of a dealer.
-    pub(crate) fn deals(&self) -> Option<Bivariate>
-        ensures { option_map rows_of result ≡ (if nat_eq self.now.terms.me self.now.terms.dealer then option_map rows_of self.now.chance else None) }
+    pub(crate) fn deals(&self) -> Option<&Bivariate>
+        ensures { option_map rows_of (option_copied result) ≡ (if nat_eq self.now.terms.me self.now.terms.dealer then option_map rows_of self.now.chance else None) }
     {
-        self.chance.filter(|_| self.terms.me == self.terms.dealer)
+        self.chance.as_ref().filter(|_| self.terms.me == self.terms.dealer)
     }
 
     // What it sends keeper j in the round that is called.
@@ -253,7 +253,7 @@ impl Seat {
         }
         match self.round {
             Round::Complain => self.complaint_about(k),
-            Round::Reveal => self.deals().and_then(|dealt| self.answer_to(&dealt, k)),
+            Round::Reveal => self.deals().and_then(|dealt| self.answer_to(dealt, k)),
             Round::Judge if k == self.terms.me => Some(self.judgement()),
             _ => None,
         }
