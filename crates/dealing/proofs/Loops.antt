@@ -1,5 +1,5 @@
 -- Chains over the keepers: a test that passes for some, for every one, or for so many.
-use Rattle.std.proofs.Common.{◌≡◌, ℕ, zero, suc, ◌+◌, Bool, true, false, cond, ◌&&◌, ◌||◌, List, [], ◌∷◌, ◌++◌, map, length, refl, sym, ◌∙◌, ap, subst, add-one, arith, length-append}
+use Rattle.std.proofs.Common.{◌≡◌, ℕ, zero, suc, Bool, true, false, ◌&&◌, ◌||◌, List, [], ◌∷◌, ◌++◌, length, refl, sym, ◌∙◌, ap, add-one, arith, length-append}
 use mathlib.Core.List.{map-id}
 use denote.Param.Members.{Mut, Called}
 use denote.Ref.{Bor}

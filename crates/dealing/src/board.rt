@@ -44,9 +44,8 @@ impl Board {
         ensures { posts_of self.new ≡ posted_it (posts_of self.old) by (Complaint about (said pair)) }
     {
         let by = usize::from(by);
-        let rows = &mut self.complaints;
-        if by < rows.len() {
-            put(&mut rows[by], usize::from(about), pair);
+        if by < self.complaints.len() {
+            put(&mut self.complaints[by], usize::from(about), pair);
         }
     }
 
@@ -67,7 +66,8 @@ impl Board {
 
     // Do two keepers that complain about each other say the same, or is one revealed?
     fn settles(&self, a: u8, b: u8) -> bool
-        ensures { result ≡ settles (complaint (posts_of self.now) a b) (complaint (posts_of self.now) b a) (revealed (posts_of self.now) a) (revealed (posts_of self.now) b) }
+        ensures { let q = posts_of self.now in
+            result ≡ settles (complaint q a b) (complaint q b a) (revealed q a) (revealed q b) }
     {
         match (
             self.complaint(a, b),
@@ -91,45 +91,51 @@ impl Seat {
 
     // Has keeper k complained with other numbers than the share gives that it was dealt?
     pub(crate) fn wrong(&self, dealt: &Share, k: u8) -> bool
-        ensures { result ≡ any (keepers (setting_of self.now.terms)) (λ b. differs (complaint (posts_of self.now.board) k b) (pair_at p (held dealt.now) b)) }
+        ensures { let q = posts_of self.now.board in
+            result ≡ any (keepers (setting_of self.now.terms)) (λ b. differs (complaint q k b) (pair_at p (held dealt.now) b)) }
     {
-        (0..self.terms.keepers()).any(
-            |b| self.board.complaint(k, b).is_some_and(|pair| !pair.same(dealt.pair_at(b))),
-        )
+        (0..self.terms.keepers()).any(|b| self
+            .board
+            .complaint(k, b)
+            .is_some_and(|pair| !pair.same(dealt.pair_at(b))))
     }
 
     // Has what was revealed of keeper k the right lengths, and does it agree with this keeper's own share?
     fn shows(&self, mine: &Share, k: u8) -> bool
         ensures { result ≡ shows (setting_of self.now.terms) self.now.terms.me (held mine.now) k (revealed (posts_of self.now.board) k) }
     {
-        self.board
-            .revealed(k)
-            .is_none_or(
-                |share| share.has(self.terms.shape) && mine.agrees(self.terms.me, &share, k),
-            )
+        self.board.revealed(k).is_none_or(|share| share.has(self.terms.shape)
+            && mine.agrees(self.terms.me, &share, k))
     }
 
     fn all_shown(&self, mine: &Share) -> bool
-        ensures { result ≡ every (keepers (setting_of self.now.terms)) (λ k. shows (setting_of self.now.terms) self.now.terms.me (held mine.now) k (revealed (posts_of self.now.board) k)) }
+        ensures { let s = setting_of self.now.terms in
+            let q = posts_of self.now.board in
+            result ≡ every (keepers s) (λ k. shows s self.now.terms.me (held mine.now) k (revealed q k)) }
     {
         (0..self.terms.keepers()).all(|k| self.shows(mine, k))
     }
 
     fn settled(&self, a: u8) -> bool
-        ensures { result ≡ every (keepers (setting_of self.now.terms)) (λ b. settles (complaint (posts_of self.now.board) a b) (complaint (posts_of self.now.board) b a) (revealed (posts_of self.now.board) a) (revealed (posts_of self.now.board) b)) }
+        ensures { let q = posts_of self.now.board in
+            result ≡ every (keepers (setting_of self.now.terms)) (λ b. settles (complaint q a b) (complaint q b a) (revealed q a) (revealed q b)) }
     {
         (0..self.terms.keepers()).all(|b| self.board.settles(a, b))
     }
 
     fn all_settled(&self) -> bool
-        ensures { result ≡ every (keepers (setting_of self.now.terms)) (λ a. every (keepers (setting_of self.now.terms)) (λ b. settles (complaint (posts_of self.now.board) a b) (complaint (posts_of self.now.board) b a) (revealed (posts_of self.now.board) a) (revealed (posts_of self.now.board) b))) }
+        ensures { let s = setting_of self.now.terms in
+            let q = posts_of self.now.board in
+            result ≡ every (keepers s) (λ a. every (keepers s) (λ b. settles (complaint q a b) (complaint q b a) (revealed q a) (revealed q b))) }
     {
         (0..self.terms.keepers()).all(|a| self.settled(a))
     }
 
-    // Does all fit for the keeper with this share?
+    // Does all fit for the keeper, with its share?
     pub(crate) fn all_fits(&self) -> bool
-        ensures { result ≡ all_fits (setting_of self.now.terms) self.now.terms.me (mine (setting_of self.now.terms) self.now.terms.me (hand_of self.now.hand)) (posts_of self.now.board) }
+        ensures { let s = setting_of self.now.terms in
+            let me = self.now.terms.me in
+            result ≡ all_fits s me (mine s me (hand_of self.now.hand)) (posts_of self.now.board) }
     {
         self.board.revealed(self.terms.me).is_none()
             && self.all_shown(&self.mine())

@@ -82,7 +82,9 @@ impl Seat {
     pub fn own(&self) -> Share
         ensures { held result ≡ own_share (terms_of self.now.terms) (state_of self.now) }
     {
-        self.board.revealed(self.terms.me).unwrap_or_else(|| self.mine())
+        self.board
+            .revealed(self.terms.me)
+            .unwrap_or_else(|| self.mine())
     }
 
     // The value of an accepted dealing.

@@ -11,6 +11,7 @@ use polynomial::Share;
 pub fn go_on(revealed: &[Option<Share>], shares: &mut [Option<Share>])
     ensures { (k : ℕ) → k < length shares.old → option_map held (slice_index_or shares.new k None) ≡ goes_on (option_map held (slice_index_or revealed.now k None)) (option_map held (slice_index_or shares.old k None)) }
 {
+    // By place: after a `zip` of `iter_mut` nothing is known of what was written.
     for (k, share) in shares.iter_mut().enumerate() {
         *share = at(revealed, k).or(*share);
     }

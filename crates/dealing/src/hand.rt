@@ -51,7 +51,10 @@ impl Seat {
     pub(crate) fn doubts(&self, j: u8) -> bool
         ensures { result ≡ doubts (setting_of self.now.terms) self.now.terms.me (hand_of self.now.hand) j }
     {
-        let fits = self.mine().pair_at(j).swap();
-        j != self.terms.me && self.hand.told_by(j).is_none_or(|told| !told.same(fits))
+        j != self.terms.me
+            && self
+                .hand
+                .told_by(j)
+                .is_none_or(|told| !told.same(self.mine().pair_at(j).swap()))
     }
 }

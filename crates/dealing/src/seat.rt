@@ -182,7 +182,9 @@ impl Seat {
     pub(crate) fn deals(&self) -> Option<&Bivariate>
         ensures { option_map rows_of (option_copied result) ≡ (if nat_eq self.now.terms.me self.now.terms.dealer then option_map rows_of self.now.chance else None) }
     {
-        self.chance.as_ref().filter(|_| self.terms.me == self.terms.dealer)
+        self.chance
+            .as_ref()
+            .filter(|_| self.terms.me == self.terms.dealer)
     }
 
     // What it sends keeper j in the round that is called.
