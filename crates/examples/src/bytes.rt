@@ -1,5 +1,5 @@
 // Bytes worked out by hand.
-use message::{Message, read, write};
+use message::{Body, Head, Message, read, write};
 use polynomial::{Pair, Shape};
 use std::test::Fail;
 
@@ -12,12 +12,16 @@ fn complaint(rt: HostRuntime) -> Result<(), Fail> {
         across: 0x0102_0304_0506_0708,
         down: 5,
     };
-    let said = Message::Complaint {
-        night: 0x0a0b_0c0d,
-        dealer: 2,
-        by: 1,
-        about: 3,
-        pair,
+    let said = Message {
+        head: Head {
+            night: 0x0a0b_0c0d,
+            dealer: 2,
+        },
+        body: Body::Complaint {
+            by: 1,
+            about: 3,
+            pair,
+        },
     };
     let bytes = write(rt.alloc(), &said)?;
     let wanted =
