@@ -52,9 +52,9 @@ abbrev pub state_of : Seat → rules.State
 state_of s = record { round = round_of s.round; chance = option_map rows_of s.chance; hand = hand_of s.hand; posts = posts_of s.board; kept = option_map number s.kept }
 
 -- the number of the refusal, if a message is turned away
-abbrev pub refused : Result (Unit {0}) Refusal → Option ℕ
-refused (Ok _) = None
-refused (Err why) = Some (number_of why)
+abbrev pub refusal_of : Result (Unit {0}) Refusal → Option ℕ
+refusal_of (Ok _) = None
+refusal_of (Err why) = Some (number_of why)
 
 -- What comes of a message: the state that the rules give; or, refused with the number that they give, the seat as it was.
 abbrev pub Answered : (before : Seat) → (ruled : rules.State × Option ℕ) → (after : Seat) → Result (Unit {0}) Refusal → Type 0

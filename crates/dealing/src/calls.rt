@@ -1,6 +1,5 @@
 // The rounds of a seat, from the first to what is kept.
-ghost use Rattle.std.specs.Prelude.{◌≡◌, ℕ, ◌+◌, ◌*◌, ◌<◌, ◌≤◌, MatchOption};
-ghost use Rattle.algebra.specs.Prime.{p};
+ghost use Rattle.std.specs.Prelude.{◌≡◌, ◌+◌, ◌*◌, ◌<◌, ◌≤◌, MatchOption};
 ghost use Rattle.dealing.specs.Model.{hand_of, number, posts_of, state_of, terms_of};
 ghost use Rattle.polynomial.specs.Lists.{held, rows_of};
 ghost use Rattle.rules.specs.Rounds.{nothing_heard, nothing_posted};

@@ -1,5 +1,5 @@
 // A seat in a dealing, message by message.
-ghost use Rattle.dealing.specs.Model.{Answered, Heard, Posted, refused, round_of, state_of, terms_of};
+ghost use Rattle.dealing.specs.Model.{Answered, Heard, Posted, refusal_of, round_of, state_of, terms_of};
 ghost use Rattle.message.specs.Model.{message_of};
 ghost use Rattle.polynomial.specs.Lists.{held, rows_of, said};
 ghost use Rattle.rules.specs.Message as rules;
@@ -8,34 +8,27 @@ ghost use Rattle.std.specs.Option.{option_copied, option_map};
 ghost use Rattle.std.specs.Prelude.{◌≡◌, if◌then◌else◌, OnErr, Some, None, nat_eq};
 
 use crate::types::{Refusal, Round, Seat};
-use message::{Message, read};
+use message::{Body, Head, Message, read};
 use polynomial::{Bivariate, Pair, Share};
 
 impl Seat {
-    // Is it this night, and the round that is called?
-    fn timely(&self, round: Round, night: u32) -> bool
-        ensures { result ≡ timely (terms_of self.now.terms) (state_of self.now) night (round_of round) }
+    // A message of this dealing, in the round that is called.
+    fn expect(&self, round: Round, head: Head) -> Result<(), Refusal>
+        ensures { refusal_of result ≡ unless (timely (terms_of self.now.terms) (state_of self.now) head.night (round_of round)) 2 (unless (nat_eq head.dealer self.now.terms.dealer) 3 None) }
     {
-        night == self.terms.night && self.round == round
-    }
-
-    // A message of this dealing, in its round.
-    fn expect(&self, round: Round, night: u32, dealer: u8) -> Result<(), Refusal>
-        ensures { refused result ≡ unless (timely (terms_of self.now.terms) (state_of self.now) night (round_of round)) 2 (unless (nat_eq dealer self.now.terms.dealer) 3 None) }
-    {
-        if !self.timely(round, night) {
+        if head.night != self.terms.night || self.round != round {
             return Err(Refusal::Untimely);
         }
-        if dealer != self.terms.dealer {
+        if head.dealer != self.terms.dealer {
             return Err(Refusal::Unentitled);
         }
         Ok(())
     }
 
-    fn hear_share(&mut self, from: u8, night: u32, dealer: u8, share: Share) -> Result<(), Refusal>
-        ensures { Heard self.old from (rules.Share night dealer (held share)) self.new result }
+    fn hear_share(&mut self, from: u8, head: Head, share: Share) -> Result<(), Refusal>
+        ensures { Heard self.old from (rules.Share head.night head.dealer (held share)) self.new result }
     {
-        self.expect(Round::Deal, night, dealer)?;
+        self.expect(Round::Deal, head)?;
         if from != self.terms.dealer || from == self.terms.me || self.hand.share.is_some() {
             return Err(Refusal::Unentitled);
         }
@@ -43,10 +36,10 @@ impl Seat {
         Ok(())
     }
 
-    fn hear_told(&mut self, from: u8, night: u32, dealer: u8, pair: Pair) -> Result<(), Refusal>
-        ensures { Heard self.old from (rules.Told night dealer (said pair)) self.new result }
+    fn hear_told(&mut self, from: u8, head: Head, pair: Pair) -> Result<(), Refusal>
+        ensures { Heard self.old from (rules.Told head.night head.dealer (said pair)) self.new result }
     {
-        self.expect(Round::Tell, night, dealer)?;
+        self.expect(Round::Tell, head)?;
         if from == self.terms.me || self.hand.told_by(from).is_some() {
             return Err(Refusal::Unentitled);
         }
@@ -62,18 +55,11 @@ impl Seat {
         if from >= self.terms.keepers() {
             return Err(Refusal::Malformed);
         }
-        match message {
-            Message::Share {
-                night,
-                dealer,
-                share,
-            } => self.hear_share(from, night, dealer, share),
-            Message::Told {
-                night,
-                dealer,
-                pair,
-            } => self.hear_told(from, night, dealer, pair),
-            Message::Value { .. } => Err(Refusal::Untimely),
+        let Message { head, body } = message;
+        match body {
+            Body::Share(share) => self.hear_share(from, head, share),
+            Body::Told(pair) => self.hear_told(from, head, pair),
+            Body::Value { .. } => Err(Refusal::Untimely),
             _ => Err(Refusal::Malformed),
         }
     }
@@ -81,18 +67,17 @@ impl Seat {
     fn post_complaint(
         &mut self,
         who: u8,
-        night: u32,
-        dealer: u8,
+        head: Head,
         by: u8,
         about: u8,
         pair: Pair,
     ) -> Result<(), Refusal>
-        ensures { Posted self.old who (rules.Complaint night dealer by about (said pair)) self.new result }
+        ensures { Posted self.old who (rules.Complaint head.night head.dealer by about (said pair)) self.new result }
     {
         if about >= self.terms.keepers() {
             return Err(Refusal::Malformed);
         }
-        self.expect(Round::Complain, night, dealer)?;
+        self.expect(Round::Complain, head)?;
         if by != who || self.board.complaint(who, about).is_some() {
             return Err(Refusal::Unentitled);
         }
@@ -103,20 +88,13 @@ impl Seat {
         Ok(())
     }
 
-    fn post_reveal(
-        &mut self,
-        who: u8,
-        night: u32,
-        dealer: u8,
-        keeper: u8,
-        share: Share,
-    ) -> Result<(), Refusal>
-        ensures { Posted self.old who (rules.Reveal night dealer keeper (held share)) self.new result }
+    fn post_reveal(&mut self, who: u8, head: Head, keeper: u8, share: Share) -> Result<(), Refusal>
+        ensures { Posted self.old who (rules.Reveal head.night head.dealer keeper (held share)) self.new result }
     {
         if keeper >= self.terms.keepers() {
             return Err(Refusal::Malformed);
         }
-        self.expect(Round::Reveal, night, dealer)?;
+        self.expect(Round::Reveal, head)?;
         if who != self.terms.dealer || self.board.revealed(keeper).is_some() {
             return Err(Refusal::Unentitled);
         }
@@ -127,17 +105,10 @@ impl Seat {
         Ok(())
     }
 
-    fn post_fine(
-        &mut self,
-        who: u8,
-        night: u32,
-        dealer: u8,
-        keeper: u8,
-        fine: bool,
-    ) -> Result<(), Refusal>
-        ensures { Posted self.old who (rules.Fine night dealer keeper fine) self.new result }
+    fn post_fine(&mut self, who: u8, head: Head, keeper: u8, fine: bool) -> Result<(), Refusal>
+        ensures { Posted self.old who (rules.Fine head.night head.dealer keeper fine) self.new result }
     {
-        self.expect(Round::Judge, night, dealer)?;
+        self.expect(Round::Judge, head)?;
         if keeper != who || self.board.said_fine(who).is_some() {
             return Err(Refusal::Unentitled);
         }
@@ -153,27 +124,12 @@ impl Seat {
         if who >= self.terms.keepers() {
             return Err(Refusal::Malformed);
         }
-        match message {
-            Message::Complaint {
-                night,
-                dealer,
-                by,
-                about,
-                pair,
-            } => self.post_complaint(who, night, dealer, by, about, pair),
-            Message::Reveal {
-                night,
-                dealer,
-                keeper,
-                share,
-            } => self.post_reveal(who, night, dealer, keeper, share),
-            Message::Fine {
-                night,
-                dealer,
-                keeper,
-                fine,
-            } => self.post_fine(who, night, dealer, keeper, fine),
-            Message::Finished { .. } => Err(Refusal::Untimely),
+        let Message { head, body } = message;
+        match body {
+            Body::Complaint { by, about, pair } => self.post_complaint(who, head, by, about, pair),
+            Body::Reveal { keeper, share } => self.post_reveal(who, head, keeper, share),
+            Body::Fine { keeper, fine } => self.post_fine(who, head, keeper, fine),
+            Body::Finished { .. } => Err(Refusal::Untimely),
             _ => Err(Refusal::Malformed),
         }
     }
@@ -187,6 +143,19 @@ impl Seat {
             .filter(|_| self.terms.me == self.terms.dealer)
     }
 
+    // What it says, as a message of this dealing.
+    fn says(&self, body: Body) -> Message
+        ensures { result ≡ record { head = record { night = self.now.terms.night; dealer = self.now.terms.dealer }; body = body } }
+    {
+        Message {
+            head: Head {
+                night: self.terms.night,
+                dealer: self.terms.dealer,
+            },
+            body,
+        }
+    }
+
     // What it sends keeper j in the round that is called.
     pub fn mail_to(&self, j: u8) -> Option<Message>
         ensures { option_map message_of result ≡ mail_to (terms_of self.now.terms) (state_of self.now) j }
@@ -194,19 +163,11 @@ impl Seat {
         if j == self.terms.me || j >= self.terms.keepers() {
             return None;
         }
-        let night = self.terms.night;
-        let dealer = self.terms.dealer;
         match self.round {
-            Round::Deal => self.deals().map(|dealt| Message::Share {
-                night,
-                dealer,
-                share: dealt.share(j),
-            }),
-            Round::Tell => Some(Message::Told {
-                night,
-                dealer,
-                pair: self.mine().pair_at(j),
-            }),
+            Round::Deal => self
+                .deals()
+                .map(|dealt| self.says(Body::Share(dealt.share(j)))),
+            Round::Tell => Some(self.says(Body::Told(self.mine().pair_at(j)))),
             _ => None,
         }
     }
@@ -214,36 +175,28 @@ impl Seat {
     fn complaint_about(&self, k: u8) -> Option<Message>
         ensures { option_map message_of result ≡ complaint_to (terms_of self.now.terms) (state_of self.now) k }
     {
-        self.doubts(k).then(|| Message::Complaint {
-            night: self.terms.night,
-            dealer: self.terms.dealer,
+        self.doubts(k).then(|| self.says(Body::Complaint {
             by: self.terms.me,
             about: k,
             pair: self.mine().pair_at(k),
-        })
+        }))
     }
 
     fn answer_to(&self, dealt: &Bivariate, k: u8) -> Option<Message>
         ensures { option_map message_of result ≡ answer_to (terms_of self.now.terms) (state_of self.now) (Some (rows_of dealt.now)) k }
     {
         let share = dealt.share(k);
-        self.wrong(&share, k).then(|| Message::Reveal {
-            night: self.terms.night,
-            dealer: self.terms.dealer,
-            keeper: k,
-            share,
-        })
+        self.wrong(&share, k)
+            .then(|| self.says(Body::Reveal { keeper: k, share }))
     }
 
     fn judgement(&self) -> Message
         ensures { message_of result ≡ judgement (terms_of self.now.terms) (state_of self.now) }
     {
-        Message::Fine {
-            night: self.terms.night,
-            dealer: self.terms.dealer,
+        self.says(Body::Fine {
             keeper: self.terms.me,
             fine: self.all_fits(),
-        }
+        })
     }
 
     // What it puts on the board in the round that is called: a line for each keeper k, or none.

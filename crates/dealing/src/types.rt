@@ -1,5 +1,5 @@
 // What a keeper holds of a dealing, and what stands on the board about it.
-ghost use Rattle.std.specs.Prelude.{◌≡◌, ◌+◌, ◌*◌, ◌<◌, ◌≤◌};
+ghost use Rattle.std.specs.Prelude.{◌+◌, ◌*◌, ◌<◌, ◌≤◌};
 
 use field::Element;
 use polynomial::{Bivariate, Pair, Shape, Share};
