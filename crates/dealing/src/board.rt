@@ -75,7 +75,7 @@ impl Board {
             self.revealed(a),
             self.revealed(b),
         ) {
-            (Some(x), Some(y), None, None) => x.same(y.swap()),
+            (Some(x), Some(y), None, None) => x == y.swap(),
             _ => true,
         }
     }
@@ -97,7 +97,7 @@ impl Seat {
         (0..self.terms.keepers()).any(|b| self
             .board
             .complaint(k, b)
-            .is_some_and(|pair| !pair.same(dealt.pair_at(b))))
+            .is_some_and(|pair| pair != dealt.pair_at(b)))
     }
 
     // Has what was revealed of keeper k the right lengths, and does it agree with this keeper's own share?

@@ -55,6 +55,6 @@ impl Seat {
             && self
                 .hand
                 .told_by(j)
-                .is_none_or(|told| !told.same(self.mine().pair_at(j).swap()))
+                .is_none_or(|told| told != self.mine().pair_at(j).swap())
     }
 }
