@@ -8,17 +8,17 @@ mod draft;
 mod expected;
 mod failure;
 mod play;
+mod rows;
 mod scene;
 mod script;
 mod show;
 mod stage;
-mod table;
 mod words;
 
 use anyhow::anyhow;
 use expected::Expected;
 use failure::Failure;
-use show::Refused;
+use show::number_of;
 use stage::{Reply, Stage};
 use std::alloc::Global;
 use std::io::{BufRead, BufReader};
@@ -49,9 +49,11 @@ fn play_all(rt: &HostRuntime) -> anyhow::Result<()> {
         }
         match answer(&mut stage, rt.alloc(), line.as_slice()) {
             Ok(Reply::Nothing) => {}
-            Ok(Reply::Answered(answers)) => {
-                let refused = Refused(answers);
-                print!(rt; "{refused}")?;
+            Ok(Reply::Refused(refusals)) => {
+                for refusal in refusals.iter() {
+                    let number = number_of(*refusal);
+                    println!(rt; "refused {number}")?;
+                }
             }
             Ok(Reply::Show) => print!(rt; "{stage}")?,
             Err(Failure::Unusable(expected)) => println!(rt; "line {n}: expected {expected}")?,
