@@ -170,17 +170,12 @@ fn write_answer(out: &mut Vec<u8>, words: &mut Words<'_>) -> Result<(), Failure>
 
 // `hex DIGITS`
 fn hex(heap: Global, mut words: Words<'_>) -> Result<Vec<u8>, Failure> {
-    let bytes = unhex(heap, words.next().ok_or(Expected::Hex)?)?;
-    words.end()?;
-    Ok(bytes)
-}
-
-// The bytes that digits write, by two each.
-fn unhex(heap: Global, digits: &str) -> Result<Vec<u8>, Failure> {
+    let digits = words.next().ok_or(Expected::Hex)?;
     let mut out = Vec::new(heap);
     for pair in digits.as_bytes().chunks(2) {
         out.push(byte(pair).ok_or(Expected::Hex)?)?;
     }
+    words.end()?;
     Ok(out)
 }
 

@@ -28,9 +28,7 @@ use std::process::ExitCode;
 fn answer(stage: &mut Stage, heap: Global, line: &[u8]) -> Result<Reply, Failure>
     ensures same { OnErr result (stage.new ≡ stage.old) }
 {
-    let Ok(text) = std::str::from_utf8(line) else {
-        return Err(Failure::Unusable(Expected::Utf8));
-    };
+    let text = std::str::from_utf8(line).map_err(|_| Expected::Utf8)?;
     match script::parse(heap, text.strip_suffix('\n').unwrap_or(text))? {
         Some(command) => stage.carry_out(heap, command),
         None => Ok(Reply::Nothing),

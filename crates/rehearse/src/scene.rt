@@ -9,12 +9,11 @@ use crate::play::Play;
 use crate::rows::Rows;
 use dealing::Refusal;
 use std::alloc::Global;
-use std::collections::BTreeSet;
 
 #[derive(Clone, Drop)]
 pub struct Scene {
     pub company: Company,
-    pub liars: BTreeSet<u8>,
+    pub liars: Vec<u8>,
     pub play: Option<Play>,
 }
 
@@ -23,7 +22,7 @@ impl Scene {
     pub fn new(heap: Global, company: Company) -> Scene {
         Scene {
             company,
-            liars: BTreeSet::new(heap),
+            liars: Vec::new(heap),
             play: None,
         }
     }
@@ -36,10 +35,7 @@ impl Scene {
         if self.play.is_some() {
             return Err(Expected::NoDealing.into());
         }
-        for keeper in named {
-            self.liars.insert(*keeper)?;
-        }
-        Ok(())
+        Ok(self.liars.extend_from_slice(named)?)
     }
 
     // A keeper deals; an earlier dealing is gone.

@@ -3,9 +3,8 @@ use crate::play::Play;
 use crate::rows::Listed;
 use crate::scene::Scene;
 use crate::stage::Stage;
-use dealing::{Refusal, Round, Seat};
+use dealing::{Board, Refusal, Round, Seat};
 use polynomial::Share;
-use std::collections::BTreeSet;
 use std::fmt;
 
 // The two sides of a share.
@@ -19,31 +18,26 @@ fn show_share<W: fmt::Write>(f: &mut fmt::Formatter<W>, share: &Share) -> fmt::R
 fn show_value<W: fmt::Write>(f: &mut fmt::Formatter<W>, keeper: u8, share: &Share) -> fmt::Result {
     write!(f, "keeper {keeper}: ")?;
     show_share(f, share)?;
-    let value = share.value().value();
-    writeln!(f, ", value {value}")
+    writeln!(f, ", value {}", share.value().value())
 }
 
 // What a keeper keeps in the end.
 fn show_kept<W: fmt::Write>(f: &mut fmt::Formatter<W>, seat: &Seat) -> fmt::Result {
     let keeper = seat.terms.me;
     match seat.kept {
-        Some(kept) => {
-            let value = kept.value();
-            writeln!(f, "keeper {keeper}: keeps {value}")
-        }
+        Some(kept) => writeln!(f, "keeper {keeper}: keeps {}", kept.value()),
         None => writeln!(f, "keeper {keeper}: keeps nothing"),
     }
 }
 
-fn show_complaints<W: fmt::Write>(f: &mut fmt::Formatter<W>, seat: &Seat) -> fmt::Result {
-    for (by, complaints) in seat.board.complaints.iter().enumerate() {
+fn show_complaints<W: fmt::Write>(f: &mut fmt::Formatter<W>, board: &Board) -> fmt::Result {
+    for (by, complaints) in board.complaints.iter().enumerate() {
         for (about, complaint) in complaints.iter().enumerate() {
             if let Some(pair) = complaint {
-                let across = pair.across;
-                let down = pair.down;
                 writeln!(
                     f,
-                    "complaint {by} about {about}: across {across}, down {down}"
+                    "complaint {by} about {about}: across {}, down {}",
+                    pair.across, pair.down
                 )?;
             }
         }
@@ -51,8 +45,8 @@ fn show_complaints<W: fmt::Write>(f: &mut fmt::Formatter<W>, seat: &Seat) -> fmt
     Ok(())
 }
 
-fn show_reveals<W: fmt::Write>(f: &mut fmt::Formatter<W>, seat: &Seat) -> fmt::Result {
-    for (k, reveal) in seat.board.reveals.iter().enumerate() {
+fn show_reveals<W: fmt::Write>(f: &mut fmt::Formatter<W>, board: &Board) -> fmt::Result {
+    for (k, reveal) in board.reveals.iter().enumerate() {
         if let Some(share) = reveal {
             write!(f, "reveal {k}: ")?;
             show_share(f, share)?;
@@ -63,8 +57,8 @@ fn show_reveals<W: fmt::Write>(f: &mut fmt::Formatter<W>, seat: &Seat) -> fmt::R
 }
 
 // Who said whether it is fine.
-fn show_fines<W: fmt::Write>(f: &mut fmt::Formatter<W>, seat: &Seat) -> fmt::Result {
-    for (i, fine) in seat.board.fines.iter().enumerate() {
+fn show_fines<W: fmt::Write>(f: &mut fmt::Formatter<W>, board: &Board) -> fmt::Result {
+    for (i, fine) in board.fines.iter().enumerate() {
         if let Some(fine) = fine {
             let word = if *fine { "yes" } else { "no" };
             writeln!(f, "fine {i}: {word}")?;
@@ -92,9 +86,9 @@ fn show_judgement<W: fmt::Write>(f: &mut fmt::Formatter<W>, seat: &Seat) -> fmt:
 
 // What stands on the board.
 fn show_board<W: fmt::Write>(f: &mut fmt::Formatter<W>, seat: &Seat) -> fmt::Result {
-    show_complaints(f, seat)?;
-    show_reveals(f, seat)?;
-    show_fines(f, seat)?;
+    show_complaints(f, &seat.board)?;
+    show_reveals(f, &seat.board)?;
+    show_fines(f, &seat.board)?;
     match seat.round {
         Round::Judge | Round::Decided => show_judgement(f, seat),
         _ => Ok(()),
@@ -135,7 +129,7 @@ impl Play {
         }
     }
 
-    fn show<W: fmt::Write>(&self, f: &mut fmt::Formatter<W>, liars: &BTreeSet<u8>) -> fmt::Result {
+    fn show<W: fmt::Write>(&self, f: &mut fmt::Formatter<W>, liars: &[u8]) -> fmt::Result {
         let Some(first) = self.seats.first() else {
             return Ok(());
         };
@@ -161,7 +155,7 @@ impl fmt::Display for Scene {
         let last = self.company.last();
         writeln!(out, "f {f}, keepers 0 to {last}")?;
         match &self.play {
-            Some(play) => play.show(out, &self.liars),
+            Some(play) => play.show(out, self.liars.as_slice()),
             None => out.write_str("nothing dealt\n"),
         }
     }
@@ -169,9 +163,9 @@ impl fmt::Display for Scene {
 
 impl fmt::Display for Stage {
     fn fmt<W: fmt::Write>(&self, f: &mut fmt::Formatter<W>) -> fmt::Result {
-        match &self.scene {
-            Some(scene) => write!(f, "{scene}"),
-            None => Ok(()),
+        if let Some(scene) = &self.scene {
+            write!(f, "{scene}")?;
         }
+        Ok(())
     }
 }

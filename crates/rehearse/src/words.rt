@@ -34,7 +34,7 @@ impl<'a> Words<'a> {
     }
 
     // There should be no other word.
-    pub fn end(&mut self) -> Result<(), Expected> {
+    pub fn end(mut self) -> Result<(), Expected> {
         if self.next().is_some() {
             return Err(Expected::NoMore);
         }
