@@ -46,9 +46,7 @@ impl Draft {
             None
         };
         let kind = words.next().and_then(kind_of).ok_or(Expected::Message)?;
-        let mut body = Vec::new(heap);
-        write_body(&mut body, kind, &mut words)?;
-        words.end()?;
+        let body = Body::read(heap, kind, words)?;
         Ok(Draft::Message {
             kind,
             night,
@@ -92,80 +90,100 @@ fn kind_of(word: &str) -> Option<Kind> {
     }
 }
 
-// What follows the night and the dealer.
-fn write_body(out: &mut Vec<u8>, kind: Kind, words: &mut Words<'_>) -> Result<(), Failure> {
-    match kind {
-        Kind::Share => write_sides(out, words),
-        Kind::Told => write_pair(out, words),
-        Kind::Complaint => {
-            write_byte(out, words)?;
-            write_byte(out, words)?;
-            write_pair(out, words)
-        }
-        Kind::Reveal => {
-            write_byte(out, words)?;
-            write_sides(out, words)
-        }
-        Kind::Fine => {
-            write_byte(out, words)?;
-            write_answer(out, words)
-        }
-        Kind::Finished => write_byte(out, words),
-        Kind::Value => {
-            write_byte(out, words)?;
-            write_number(out, words)
+// What follows the night and the dealer: the words that are left to read, and the bytes that the others write.
+#[derive(Drop)]
+struct Body<'a> {
+    words: Words<'a>,
+    bytes: Vec<u8>,
+}
+
+impl<'a> Body<'a> {
+    // The bytes that all words write, of this kind of message.
+    fn read(heap: Global, kind: Kind, words: Words<'a>) -> Result<Vec<u8>, Failure> {
+        let mut body = Body {
+            words,
+            bytes: Vec::new(heap),
+        };
+        body.write(kind)?;
+        body.words.end()?;
+        Ok(body.bytes)
+    }
+
+    fn write(&mut self, kind: Kind) -> Result<(), Failure> {
+        match kind {
+            Kind::Share => self.sides(),
+            Kind::Told => self.pair(),
+            Kind::Complaint => {
+                self.byte()?;
+                self.byte()?;
+                self.pair()
+            }
+            Kind::Reveal => {
+                self.byte()?;
+                self.sides()
+            }
+            Kind::Fine => {
+                self.byte()?;
+                self.answer()
+            }
+            Kind::Finished => self.byte(),
+            Kind::Value => {
+                self.byte()?;
+                self.number()
+            }
         }
     }
-}
 
-// A number below 256.
-fn write_byte(out: &mut Vec<u8>, words: &mut Words<'_>) -> Result<(), Failure> {
-    Ok(out.push(words.number()?)?)
-}
-
-// A number as eight bytes.
-fn write_number(out: &mut Vec<u8>, words: &mut Words<'_>) -> Result<(), Failure> {
-    let number: u64 = words.number()?;
-    Ok(out.extend_from_slice(&number.to_be_bytes())?)
-}
-
-// `A D`
-fn write_pair(out: &mut Vec<u8>, words: &mut Words<'_>) -> Result<(), Failure> {
-    write_number(out, words)?;
-    write_number(out, words)
-}
-
-// `A .. / D ..`
-fn write_sides(out: &mut Vec<u8>, words: &mut Words<'_>) -> Result<(), Failure> {
-    if !write_side(out, words)? || write_side(out, words)? {
-        return Err(Expected::Slash.into());
+    // A number below 256.
+    fn byte(&mut self) -> Result<(), Failure> {
+        Ok(self.bytes.push(self.words.number()?)?)
     }
-    Ok(())
-}
 
-// At most twelve numbers; whether a slash follows.
-fn write_side(out: &mut Vec<u8>, words: &mut Words<'_>) -> Result<bool, Failure> {
-    for (count, word) in words.enumerate() {
-        if word == "/" {
-            return Ok(true);
-        }
-        let number: u64 = words::number(word)?;
-        if count >= 12 {
-            return Err(Expected::FewNumbers.into());
-        }
-        out.extend_from_slice(&number.to_be_bytes())?;
+    // A number as eight bytes.
+    fn number(&mut self) -> Result<(), Failure> {
+        let number = self.words.number()?;
+        Ok(self.put(number)?)
     }
-    Ok(false)
-}
 
-// `yes` or `no`
-fn write_answer(out: &mut Vec<u8>, words: &mut Words<'_>) -> Result<(), Failure> {
-    let answer = match words.next() {
-        Some("yes") => true,
-        Some("no") => false,
-        _ => return Err(Expected::YesOrNo.into()),
-    };
-    Ok(out.push(answer.into())?)
+    fn put(&mut self, number: u64) -> Result<(), AllocError> {
+        self.bytes.extend_from_slice(&number.to_be_bytes())
+    }
+
+    // `A D`
+    fn pair(&mut self) -> Result<(), Failure> {
+        self.number()?;
+        self.number()
+    }
+
+    // `A .. / D ..`
+    fn sides(&mut self) -> Result<(), Failure> {
+        if !self.side()? || self.side()? {
+            return Err(Expected::Slash.into());
+        }
+        Ok(())
+    }
+
+    // At most twelve numbers; whether a slash follows.
+    fn side(&mut self) -> Result<bool, Failure> {
+        for _ in 0..=12 {
+            match self.words.next() {
+                Some("/") => return Ok(true),
+                Some(word) => self.put(words::number(word)?)?,
+                None => return Ok(false),
+            }
+        }
+        Err(Expected::FewNumbers.into())
+    }
+
+    // `yes` or `no`
+    fn answer(&mut self) -> Result<(), Failure> {
+        let answer = match self.words.next() {
+            Some("yes") => true,
+            Some("no") => false,
+            _ => return Err(Expected::YesOrNo.into()),
+        };
+        Ok(self.bytes.push(answer.into())?)
+    }
 }
 
 // `hex DIGITS`

@@ -18,14 +18,6 @@ pub struct Play {
     pub seats: Vec<Seat>,
 }
 
-// The seat of a keeper before the first round.
-fn seat(company: Company, dealer: u8, me: u8, polynomial: Bivariate) -> Seat
-    requires { (dealer ≤ 3 * company.f) × ((me ≤ 3 * company.f) × ((polynomial.shape.high ≤ company.f + 1) × (polynomial.shape.low ≤ company.f + 1))) }
-{
-    let terms = Terms::new(company.f(), 0, dealer, me, polynomial.shape()).unwrap();
-    Seat::new(terms, (me == dealer).then_some(polynomial))
-}
-
 impl Play {
     // Nothing is called yet.
     pub fn new(
@@ -39,7 +31,8 @@ impl Play {
     {
         let mut seats = Vec::new(heap);
         for me in 0..=company.last() {
-            seats.push(seat(company, dealer, me, polynomial))?;
+            let terms = Terms::new(company.f(), 0, dealer, me, polynomial.shape()).unwrap();
+            seats.push(Seat::new(terms, (me == dealer).then_some(polynomial)))?;
         }
         Ok(Play {
             company,

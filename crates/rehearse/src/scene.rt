@@ -66,8 +66,8 @@ impl Scene {
         Ok(())
     }
 
-    // The dealing, if the keeper lies.
-    fn lied(&mut self, keeper: u8) -> Result<&mut Play, Expected> {
+    // The dealing, for a keeper that lies.
+    fn dealing_for(&mut self, keeper: u8) -> Result<&mut Play, Expected> {
         let play = self.play.as_mut().ok_or(Expected::Dealing)?;
         if !self.liars.contains(&keeper) {
             return Err(Expected::Liar);
@@ -79,13 +79,13 @@ impl Scene {
     pub fn say(&mut self, heap: Global, from: u8, to: u8) -> Result<Option<Refusal>, Failure> {
         let from = self.company.keeper(from)?;
         let to = self.company.keeper(to)?;
-        Ok(self.lied(from)?.say(heap, from, to)?)
+        Ok(self.dealing_for(from)?.say(heap, from, to)?)
     }
 
     // A liar puts on the board what its seat would.
     pub fn post(&mut self, heap: Global, from: u8) -> Result<Vec<Refusal>, Failure> {
         let from = self.company.keeper(from)?;
-        Ok(self.lied(from)?.post(heap, from)?)
+        Ok(self.dealing_for(from)?.post(heap, from)?)
     }
 
     // A keeper, or somebody in its name, sends a message.
