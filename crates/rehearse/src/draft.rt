@@ -3,19 +3,8 @@ use crate::expected::Expected;
 use crate::failure::Failure;
 use crate::words;
 use crate::words::Words;
+use message::Kind;
 use std::alloc::{AllocError, Global};
-
-// What a message is about; the first byte is its number.
-#[derive(Clone, Copy)]
-pub enum Kind {
-    Share = 1,
-    Told = 2,
-    Complaint = 3,
-    Reveal = 4,
-    Fine = 5,
-    Finished = 6,
-    Value = 7,
-}
 
 #[derive(Drop)]
 pub enum Draft {
@@ -66,7 +55,7 @@ impl Draft {
                 body,
             } => {
                 let mut out = Vec::new(heap);
-                out.push(kind as u8)?;
+                out.push(u8::from(kind))?;
                 out.extend_from_slice(&night.to_be_bytes())?;
                 out.push(dealer.unwrap_or(dealt_by))?;
                 out.extend_from_slice(body.as_slice())?;

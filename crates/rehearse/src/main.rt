@@ -18,7 +18,6 @@ mod words;
 use anyhow::anyhow;
 use expected::Expected;
 use failure::Failure;
-use show::number_of;
 use stage::{Reply, Stage};
 use std::alloc::Global;
 use std::io::{BufRead, BufReader};
@@ -49,7 +48,7 @@ fn play_all(rt: &HostRuntime) -> anyhow::Result<()> {
             Ok(Reply::Nothing) => {}
             Ok(Reply::Refused(refusals)) => {
                 for refusal in refusals.iter() {
-                    let number = number_of(*refusal);
+                    let number = u8::from(*refusal);
                     println!(rt; "refused {number}")?;
                 }
             }

@@ -3,7 +3,7 @@ ghost use Rattle.std.specs.Prelude.{◌≡◌, ◌+◌, ◌*◌, ◌≤◌};
 
 use crate::company::Company;
 use crate::rows::Rows;
-use dealing::{Answer, Refusal, Round, Seat, Terms};
+use dealing::{Refusal, Round, Seat, Terms};
 use message::write;
 use polynomial::Bivariate;
 use std::alloc::{AllocError, Global};
@@ -45,33 +45,27 @@ impl Play {
 
     // Is there no other round to call?
     pub fn is_decided(&self) -> bool {
-        self.seats
-            .iter()
-            .all(|seat| matches!(seat.round, Round::Decided))
+        self.seats.iter().all(|seat| seat.round == Round::Decided)
     }
 
     // The next round is called at every seat.
     pub fn call(&mut self) {
         for seat in self.seats.iter_mut() {
-            *seat = seat.call();
+            seat.call();
         }
     }
 
     // Hands a keeper what another one sends it, which it may turn away.
     pub fn mail(&mut self, from: u8, to: u8, bytes: &[u8]) -> Option<Refusal> {
         let seat = self.seats.get_mut(usize::from(to))?;
-        let (next, answer) = seat.take_mail(from, bytes);
-        *seat = next;
-        refusal(answer)
+        seat.take_mail(from, bytes).err()
     }
 
     // Puts a line on the board, where every keeper sees it; all make the same of it.
     pub fn board(&mut self, who: u8, bytes: &[u8]) -> Option<Refusal> {
         let mut said = None;
         for seat in self.seats.iter_mut() {
-            let (next, answer) = seat.take_board(who, bytes);
-            *seat = next;
-            said = refusal(answer);
+            said = seat.take_board(who, bytes).err();
         }
         said
     }
@@ -117,12 +111,5 @@ impl Play {
             refused.extend(self.line(heap, from, k)?)?;
         }
         Ok(refused)
-    }
-}
-
-fn refusal(answer: Answer) -> Option<Refusal> {
-    match answer {
-        Answer::Taken => None,
-        Answer::Refused(refusal) => Some(refusal),
     }
 }

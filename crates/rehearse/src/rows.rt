@@ -64,7 +64,9 @@ impl Rows {
 // A number of the field.
 fn coefficient(word: &str) -> Result<Element, Expected> {
     let number = words::digits(word)?.parse().ok();
-    number.and_then(Element::new).ok_or(Expected::Small)
+    number
+        .and_then(|number: u64| Element::try_from(number).ok())
+        .ok_or(Expected::Small)
 }
 
 // Numbers with blanks between them.
@@ -80,8 +82,7 @@ impl fmt::Display for Listed<'_> {
             if i > 0 {
                 f.write_str(" ")?;
             }
-            let value = element.value();
-            write!(f, "{value}")?;
+            write!(f, "{element}")?;
         }
         Ok(())
     }

@@ -18,14 +18,14 @@ fn show_share<W: fmt::Write>(f: &mut fmt::Formatter<W>, share: &Share) -> fmt::R
 fn show_value<W: fmt::Write>(f: &mut fmt::Formatter<W>, keeper: u8, share: &Share) -> fmt::Result {
     write!(f, "keeper {keeper}: ")?;
     show_share(f, share)?;
-    writeln!(f, ", value {}", share.value().value())
+    writeln!(f, ", value {}", share.value())
 }
 
 // What a keeper keeps in the end.
 fn show_kept<W: fmt::Write>(f: &mut fmt::Formatter<W>, seat: &Seat) -> fmt::Result {
     let keeper = seat.terms.me;
     match seat.kept {
-        Some(kept) => writeln!(f, "keeper {keeper}: keeps {}", kept.value()),
+        Some(kept) => writeln!(f, "keeper {keeper}: keeps {kept}"),
         None => writeln!(f, "keeper {keeper}: keeps nothing"),
     }
 }
@@ -76,7 +76,7 @@ fn show_judgement<W: fmt::Write>(f: &mut fmt::Formatter<W>, seat: &Seat) -> fmt:
         .filter(|fine| **fine == Some(true))
         .count();
     let keepers = seat.terms.keepers();
-    let accepted = if seat.board.accepted(&seat.terms) {
+    let accepted = if seat.accepted() {
         "accepted"
     } else {
         "not accepted"
@@ -92,29 +92,6 @@ fn show_board<W: fmt::Write>(f: &mut fmt::Formatter<W>, seat: &Seat) -> fmt::Res
     match seat.round {
         Round::Judge | Round::Decided => show_judgement(f, seat),
         _ => Ok(()),
-    }
-}
-
-// The number of a refusal.
-pub fn number_of(refusal: Refusal) -> u8 {
-    match refusal {
-        Refusal::Malformed => 1,
-        Refusal::Untimely => 2,
-        Refusal::Unentitled => 3,
-        Refusal::Improper => 4,
-    }
-}
-
-// How many rounds are called.
-fn number(round: Round) -> u8 {
-    match round {
-        Round::Before => 0,
-        Round::Deal => 1,
-        Round::Tell => 2,
-        Round::Complain => 3,
-        Round::Reveal => 4,
-        Round::Judge => 5,
-        Round::Decided => 6,
     }
 }
 
@@ -135,7 +112,7 @@ impl Play {
         };
         let dealer = self.dealer;
         let rows = &self.rows;
-        let round = number(first.round);
+        let round = u8::from(first.round);
         writeln!(f, "dealer {dealer} dealt {rows}\nround {round}")?;
         for seat in self.seats.iter() {
             let keeper = seat.terms.me;
