@@ -1,3 +1,2 @@
-mod Places
+mod Tables
 mod Loops
-mod Goes

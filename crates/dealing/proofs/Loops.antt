@@ -1,58 +1,47 @@
--- Loops over the keepers: a test that passes for some, for every one, or for so many.
-use Rattle.std.proofs.Common.{◌≡◌, ℕ, zero, suc, ◌+◌, ◌<◌, ◌≤◌, Bool, true, false, cond, refl, add-one, arith}
-use Rattle.std.proofs.lemmas.Bool.{or_from, and_from, both_ways}
-use Rattle.std.proofs.lemmas.Bool.Decides.{Decides-below_or, Decides-below_and}
+-- Chains over the keepers: a test that passes for some, for every one, or for so many.
+use Rattle.std.proofs.Common.{◌≡◌, ℕ, zero, suc, Bool, true, false, ◌&&◌, ◌||◌, List, [], ◌∷◌, ◌++◌, length, refl, sym, ◌∙◌, ap, add-one, arith, length-append}
+use mathlib.Core.List.{map-id}
+use denote.Param.Members.{Mut, Called}
+use denote.Ref.{Bor}
+use Rattle.std.specs.Fn.{CalledAt}
+use Rattle.std.specs.Iterator.{ChecksAny, ChecksAll, Drains}
+use Rattle.std.specs.Iterator.Adapters.{filter_source, filter_callee, filter_steps}
+use Rattle.std.specs.List.{range_with_len, list_any, list_all, filter}
+use Rattle.std.specs.declared.ops.Range.{Range}
+use Rattle.std.proofs.iter.Yields.{nat_range_steps}
+use Rattle.std.proofs.lemmas.Iterator.{YieldsList-from_range}
+use Rattle.std.proofs.lemmas.Iterator.Search.{any_from_yields_List, all_from_yields_List}
+use Rattle.std.proofs.lemmas.Iterator.Consumers.{YieldsList-from_filter, count_from_yields_List}
+use Rattle.std.proofs.lemmas.List.FromFn.{map-range_with_len_more}
+use Rattle.std.proofs.lemmas.List.Folds.{list_any-append, list_all-append}
+use Rattle.std.proofs.lemmas.List.Elements.{filter-append}
 use Rattle.algebra.specs.Counting.{count}
 use Rattle.rules.specs.Rounds.{any, every}
 
-pub any_none : (t : ℕ → Bool) → any 0 t ≡ false
+-- the numbers below n + 1 are those below n, and n
+range_more : (n : ℕ) → range_with_len 0 (suc n) ≡ range_with_len 0 n ++ n ∷ []
+range_more n = sym (map-id (range_with_len 0 (suc n))) ∙ rw add-one at (map-range_with_len_more (λ x. x) 0 n n (omega arith)) ∙ ap (λ xs. xs ++ n ∷ []) (map-id (range_with_len 0 n))
+
+any_list : (t : ℕ → Bool) (n : ℕ) → list_any t (range_with_len 0 n) ≡ any n t
 unfolding any
-any_none t = refl
+any_list t zero = refl
+any_list t (suc n) = ap (list_any t) (range_more n) ∙ list_any-append t (range_with_len 0 n) (n ∷ []) ∙ ap (λ b. b || (t n || false)) (any_list t n) ∙ grind arith
 
-pub any_more : (n : ℕ) (t : ℕ → Bool) → t n ≡ false → any n t ≡ false → any (n + 1) t ≡ false
-unfolding any
-any_more n t e h = rw add-one (or_from (t n) (any n t) e h)
-
-pub any_hit : (n b : ℕ) (t : ℕ → Bool) → b < n → t b ≡ true → any n t ≡ true
-unfolding any
-any_hit n b t l e = (Decides-below_or t (λ k. t k ≡ true) (λ m. any m t) (λ _. (λ q. q, λ q. q)) refl (λ _. refl) n).1 (b, l, e)
-
-pub every_none : (t : ℕ → Bool) → every 0 t ≡ true
+all_list : (t : ℕ → Bool) (n : ℕ) → list_all t (range_with_len 0 n) ≡ every n t
 unfolding every
-every_none t = refl
+all_list t zero = refl
+all_list t (suc n) = ap (list_all t) (range_more n) ∙ list_all-append t (range_with_len 0 n) (n ∷ []) ∙ ap (λ b. b && (t n && true)) (all_list t n) ∙ grind arith
 
-pub every_more : (n : ℕ) (t : ℕ → Bool) → t n ≡ true → every n t ≡ true → every (n + 1) t ≡ true
-unfolding every
-every_more n t e h = rw add-one (and_from (t n) (every n t) e h)
+pub any_keeper : {F : Type 0} (g : Mut F (ℕ × Unit {0}) Bool) (t : ℕ → Bool) (f : F) (n m : ℕ) (u : Range ℕ) (r : Bool) → ChecksAny nat_range_steps g (record { start = 0; end = n }) f r u → n ≡ m → ((x : ℕ) (b : Bool) (q : F) → Called g f (x, tt) b q → (q ≡ f) × (b ≡ t x)) → r ≡ any m t
+any_keeper g t f n m u r ran e calls = any_from_yields_List t u f r ran (YieldsList-from_range 0 n n refl (omega arith)) calls ∙ any_list t n ∙ ap (λ k. any k t) e
 
-pub every_miss : (n k : ℕ) (t : ℕ → Bool) → k < n → t k ≡ false → every n t ≡ false
-unfolding every
-every_miss n k t l e = go (every n t) (λ q. (Decides-below_and t (λ j. t j ≡ true) (λ m. every m t) (λ _. (λ q. q, λ q. q)) refl (λ _. refl) n).0 q k l)
-  where
-    go : (b : Bool) → (b ≡ true → t k ≡ true) → b ≡ false
-    go true h = absurd (both_ways (t k) e (h refl))
-    go false h = refl
+pub each_keeper : {F : Type 0} (g : Mut F (ℕ × Unit {0}) Bool) (t : ℕ → Bool) (f : F) (n m : ℕ) (u : Range ℕ) (r : Bool) → ChecksAll nat_range_steps g (record { start = 0; end = n }) f r u → n ≡ m → ((x : ℕ) (b : Bool) (q : F) → Called g f (x, tt) b q → (q ≡ f) × (b ≡ t x)) → r ≡ every m t
+each_keeper g t f n m u r ran e calls = all_from_yields_List t u f r ran (YieldsList-from_range 0 n n refl (omega arith)) calls ∙ all_list t n ∙ ap (λ k. every k t) e
 
-pub count_none : (t : ℕ → Bool) → count 0 t ≡ 0
+count_list : (t : ℕ → Bool) (n : ℕ) → length (filter t (range_with_len 0 n)) ≡ count n t
 unfolding count
-count_none t = refl
+count_list t zero = refl
+count_list t (suc n) = ap (λ xs. length (filter t xs)) (range_more n) ∙ ap length (filter-append t (range_with_len 0 n) (n ∷ [])) ∙ grind (arith, length-append, count_list t n)
 
-pub count_yes : (n k : ℕ) (t : ℕ → Bool) → k ≡ count n t → t n ≡ true → k + 1 ≡ count (n + 1) t
-unfolding count
-count_yes n k t e y = rw (add-one n, y) (omega arith)
-
-pub count_no : (n k : ℕ) (t : ℕ → Bool) → k ≡ count n t → t n ≡ false → k ≡ count (n + 1) t
-unfolding count
-count_no n k t e y = rw (add-one n, y) (omega arith)
-
-count_le : (n : ℕ) (t : ℕ → Bool) → count n t ≤ n
-unfolding count
-count_le zero t = omega arith
-count_le (suc n) t = by (t n) (count_le n t)
-  where
-    by : (b : Bool) → count n t ≤ n → cond b 1 0 + count n t ≤ suc n
-    by true h = omega arith
-    by false h = omega arith
-
-pub count_bound : (n k : ℕ) (t : ℕ → Bool) → k ≡ count n t → k ≤ n
-count_bound n k t e = omega (arith, count_le n t)
+pub so_many : {F : Type 0} (g : Mut F (Bor ℕ × Unit {0}) Bool) (t : ℕ → Bool) (f : F) (n m : ℕ) (s : _) (r : ℕ) → (xs : List ℕ) × Drains (filter_steps nat_range_steps g) s xs × (r ≡ length xs) → filter_source s ≡ record { start = 0; end = n } → filter_callee s ≡ f → n ≡ m → ((x : ℕ) (b : Bool) (q : F) → CalledAt g f x b q → (q ≡ f) × (b ≡ t x)) → r ≡ count m t
+so_many g t f n m s r ran source callee e calls = count_from_yields_List s r ran (YieldsList-from_filter g t (YieldsList-from_range 0 n n source (omega arith)) callee calls) ∙ count_list t n ∙ ap (λ k. count k t) e

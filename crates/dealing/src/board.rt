@@ -1,133 +1,73 @@
 // What stands on the board about a dealing, and what follows from it.
-ghost use Rattle.std.specs.Prelude.{◌≡◌, ℕ, ◌+◌, ◌*◌, ◌<◌, ◌≤◌, false, not};
+ghost use Rattle.std.specs.Prelude.{◌≡◌, false};
 ghost use Rattle.algebra.specs.Counting.{count};
 ghost use Rattle.algebra.specs.Sharing.{pair_at};
 ghost use Rattle.algebra.specs.Prime.{p};
-ghost use Rattle.dealing.specs.Model.{posts_of, setting_of};
+ghost use Rattle.dealing.specs.Model.{hand_of, posts_of, setting_of};
 ghost use Rattle.polynomial.specs.Lists.{held, said};
-ghost use Rattle.rules.specs.Rounds.{Complaint, Fine, Reveal, all_fits, any, complained, complaint, differs, every, free, keepers, posted_it, revealed, said_fine, settles, shows};
+ghost use Rattle.rules.specs.Rounds.{Complaint, Fine, Reveal, all_fits, any, complained, complaint, differs, every, keepers, mine, posted_it, revealed, said_fine, settles, shows};
 ghost use Rattle.rules.specs.Deal.{or_else};
 ghost use Rattle.rules.specs.Seat.{accepted};
 ghost use Rattle.std.specs.Option.{option_map};
 
-use crate::types::{Board, Terms};
+use crate::places::{at, put};
+use crate::types::{Board, Seat};
 use polynomial::{Pair, Share};
 
 impl Board {
     // The complaint of one keeper about another.
     pub(crate) fn complaint(&self, by: u8, about: u8) -> Option<Pair>
-        requires { (by < 16) × (about < 16) }
         ensures { option_map said result ≡ complaint (posts_of self.now) by about }
     {
-        self.complaints[by as usize][about as usize]
+        self.complaints
+            .get(usize::from(by))
+            .and_then(|row| at(row, usize::from(about)))
     }
 
     // The share of a keeper that was revealed.
     pub(crate) fn revealed(&self, k: u8) -> Option<Share>
-        requires { k < 16 }
         ensures { option_map held result ≡ revealed (posts_of self.now) k }
     {
-        self.reveals[k as usize]
+        at(&self.reveals, usize::from(k))
     }
 
     // What a keeper said at the end.
     pub(crate) fn said_fine(&self, i: u8) -> Option<bool>
-        requires { i < 16 }
         ensures { result ≡ said_fine (posts_of self.now) i }
     {
-        self.fines[i as usize]
+        at(&self.fines, usize::from(i))
     }
 
-    // With a complaint.
-    pub(crate) fn with_complaint(self, by: u8, about: u8, pair: Pair) -> Board
-        requires { (by < 16) × (about < 16) }
-        ensures { posts_of result ≡ posted_it (posts_of self) by (Complaint about (said pair)) }
+    // One keeper complains about another.
+    #[tactic(auto, using(crate::proofs::Tables::written))]
+    pub(crate) fn complain(&mut self, by: u8, about: u8, pair: Pair)
+        ensures { posts_of self.new ≡ posted_it (posts_of self.old) by (Complaint about (said pair)) }
     {
-        let mut next = self;
-        next.complaints[by as usize][about as usize] = Some(pair);
-        next
-    }
-
-    // With a share revealed.
-    pub(crate) fn with_reveal(self, who: u8, keeper: u8, share: Share) -> Board
-        requires { keeper < 16 }
-        ensures { posts_of result ≡ posted_it (posts_of self) who (Reveal keeper (held share)) }
-    {
-        let mut next = self;
-        next.reveals[keeper as usize] = Some(share);
-        next
-    }
-
-    // With what a keeper said at the end.
-    pub(crate) fn with_fine(self, keeper: u8, fine: bool) -> Board
-        requires { keeper < 16 }
-        ensures { posts_of result ≡ posted_it (posts_of self) keeper (Fine fine) }
-    {
-        let mut next = self;
-        next.fines[keeper as usize] = Some(fine);
-        next
-    }
-
-    // Has keeper k complained about b?
-    fn complains(&self, k: u8, b: u8) -> bool
-        requires { (k < 16) × (b < 16) }
-        ensures { result ≡ not (free (complaint (posts_of self.now) k b)) }
-    {
-        self.complaint(k, b).is_some()
-    }
-
-    // Has keeper k complained?
-    pub(crate) fn complained(&self, terms: &Terms, k: u8) -> bool
-        requires { k < 16 }
-        ensures { result ≡ complained (setting_of terms.now) (posts_of self.now) k }
-    {
-        for b in 0..terms.keepers() {
-            if self.complains(k, b) {
-                return true;
-            }
-        }
-        false
-    }
-
-    // Has keeper k complained about b with other numbers than its share gives?
-    fn differs(&self, share: &Share, k: u8, b: u8) -> bool
-        requires { (k < 16) × (b < 16) }
-        ensures { result ≡ differs (complaint (posts_of self.now) k b) (pair_at p (held share.now) b) }
-    {
-        match self.complaint(k, b) {
-            None => false,
-            Some(pair) => !pair.same(share.pair_at(b)),
+        let by = usize::from(by);
+        if by < self.complaints.len() {
+            put(&mut self.complaints[by], usize::from(about), pair);
         }
     }
 
-    // Has keeper k complained with other numbers than the share gives that it was dealt?
-    pub(crate) fn wrong(&self, terms: &Terms, dealt: &Share, k: u8) -> bool
-        requires { k < 16 }
-        ensures { result ≡ any (keepers (setting_of terms.now)) (λ b. differs (complaint (posts_of self.now) k b) (pair_at p (held dealt.now) b)) }
+    // A keeper's share is revealed, by whomever.
+    #[tactic(auto, using(crate::proofs::Tables::written))]
+    pub(crate) fn reveal(&mut self, k: u8, share: Share)
+        ensures { posts_of self.new ≡ posted_it (posts_of self.old) k (Reveal k (held share)) }
     {
-        for b in 0..terms.keepers() {
-            if self.differs(dealt, k, b) {
-                return true;
-            }
-        }
-        false
+        put(&mut self.reveals, usize::from(k), share);
     }
 
-    // Has what was revealed of keeper k the right lengths, and does it agree with this keeper's own share?
-    fn shows(&self, terms: &Terms, mine: &Share, k: u8) -> bool
-        requires { k < 16 }
-        ensures { result ≡ shows (setting_of terms.now) terms.now.me (held mine.now) k (revealed (posts_of self.now) k) }
+    // A keeper says whether all fits.
+    pub(crate) fn judge(&mut self, i: u8, fine: bool)
+        ensures { posts_of self.new ≡ posted_it (posts_of self.old) i (Fine fine) }
     {
-        match self.revealed(k) {
-            None => true,
-            Some(share) => share.has(terms.shape) && mine.agrees(terms.me, &share, k),
-        }
+        put(&mut self.fines, usize::from(i), fine);
     }
 
     // Do two keepers that complain about each other say the same, or is one revealed?
     fn settles(&self, a: u8, b: u8) -> bool
-        requires { (a < 16) × (b < 16) }
-        ensures { result ≡ settles (complaint (posts_of self.now) a b) (complaint (posts_of self.now) b a) (revealed (posts_of self.now) a) (revealed (posts_of self.now) b) }
+        ensures { let q = posts_of self.now in
+            result ≡ settles (complaint q a b) (complaint q b a) (revealed q a) (revealed q b) }
     {
         match (
             self.complaint(a, b),
@@ -135,80 +75,86 @@ impl Board {
             self.revealed(a),
             self.revealed(b),
         ) {
-            (Some(x), Some(y), None, None) => x.same(y.swap()),
+            (Some(x), Some(y), None, None) => x == y.swap(),
             _ => true,
         }
     }
+}
 
-    fn all_shown(&self, terms: &Terms, mine: &Share) -> bool
-        ensures { result ≡ every (keepers (setting_of terms.now)) (λ k. shows (setting_of terms.now) terms.now.me (held mine.now) k (revealed (posts_of self.now) k)) }
+impl Seat {
+    // Has keeper k complained?
+    pub(crate) fn complained(&self, k: u8) -> bool
+        ensures { result ≡ complained (setting_of self.now.terms) (posts_of self.now.board) k }
     {
-        for k in 0..terms.keepers() {
-            if !self.shows(terms, mine, k) {
-                return false;
-            }
-        }
-        true
+        (0..self.terms.keepers()).any(|b| self.board.complaint(k, b).is_some())
     }
 
-    fn settled(&self, terms: &Terms, a: u8) -> bool
-        requires { a < 16 }
-        ensures { result ≡ every (keepers (setting_of terms.now)) (λ b. settles (complaint (posts_of self.now) a b) (complaint (posts_of self.now) b a) (revealed (posts_of self.now) a) (revealed (posts_of self.now) b)) }
+    // Has keeper k complained with other numbers than the share gives that it was dealt?
+    pub(crate) fn wrong(&self, dealt: &Share, k: u8) -> bool
+        ensures { let q = posts_of self.now.board in
+            result ≡ any (keepers (setting_of self.now.terms)) (λ b. differs (complaint q k b) (pair_at p (held dealt.now) b)) }
     {
-        for b in 0..terms.keepers() {
-            if !self.settles(a, b) {
-                return false;
-            }
-        }
-        true
+        (0..self.terms.keepers()).any(|b| self
+            .board
+            .complaint(k, b)
+            .is_some_and(|pair| pair != dealt.pair_at(b)))
     }
 
-    fn all_settled(&self, terms: &Terms) -> bool
-        ensures { result ≡ every (keepers (setting_of terms.now)) (λ a. every (keepers (setting_of terms.now)) (λ b. settles (complaint (posts_of self.now) a b) (complaint (posts_of self.now) b a) (revealed (posts_of self.now) a) (revealed (posts_of self.now) b))) }
+    // Has what was revealed of keeper k the right lengths, and does it agree with this keeper's own share?
+    fn shows(&self, mine: &Share, k: u8) -> bool
+        ensures { result ≡ shows (setting_of self.now.terms) self.now.terms.me (held mine.now) k (revealed (posts_of self.now.board) k) }
     {
-        for a in 0..terms.keepers() {
-            if !self.settled(terms, a) {
-                return false;
-            }
-        }
-        true
+        self.board.revealed(k).is_none_or(|share| share.has(self.terms.shape)
+            && mine.agrees(self.terms.me, &share, k))
     }
 
-    // Does all fit for the keeper with this share?
-    pub(crate) fn all_fits(&self, terms: &Terms, mine: &Share) -> bool
-        ensures { result ≡ all_fits (setting_of terms.now) terms.now.me (held mine.now) (posts_of self.now) }
+    fn all_shown(&self, mine: &Share) -> bool
+        ensures { let s = setting_of self.now.terms in
+            let q = posts_of self.now.board in
+            result ≡ every (keepers s) (λ k. shows s self.now.terms.me (held mine.now) k (revealed q k)) }
     {
-        self.revealed(terms.me).is_none() && self.all_shown(terms, mine) && self.all_settled(terms)
+        (0..self.terms.keepers()).all(|k| self.shows(mine, k))
     }
 
-    // Has keeper i said that all fits?
-    fn fine(&self, i: u8) -> bool
-        requires { i < 16 }
-        ensures { result ≡ or_else false (said_fine (posts_of self.now) i) }
+    fn settled(&self, a: u8) -> bool
+        ensures { let q = posts_of self.now.board in
+            result ≡ every (keepers (setting_of self.now.terms)) (λ b. settles (complaint q a b) (complaint q b a) (revealed q a) (revealed q b)) }
     {
-        match self.said_fine(i) {
-            None => false,
-            Some(fine) => fine,
-        }
+        (0..self.terms.keepers()).all(|b| self.board.settles(a, b))
+    }
+
+    fn all_settled(&self) -> bool
+        ensures { let s = setting_of self.now.terms in
+            let q = posts_of self.now.board in
+            result ≡ every (keepers s) (λ a. every (keepers s) (λ b. settles (complaint q a b) (complaint q b a) (revealed q a) (revealed q b))) }
+    {
+        (0..self.terms.keepers()).all(|a| self.settled(a))
+    }
+
+    // Does all fit for the keeper, with its share?
+    pub(crate) fn all_fits(&self) -> bool
+        ensures { let s = setting_of self.now.terms in
+            let me = self.now.terms.me in
+            result ≡ all_fits s me (mine s me (hand_of self.now.hand)) (posts_of self.now.board) }
+    {
+        self.board.revealed(self.terms.me).is_none()
+            && self.all_shown(&self.mine())
+            && self.all_settled()
     }
 
     // How many have said that all fits.
-    fn fines(&self, terms: &Terms) -> u8
-        ensures { result ≡ count (keepers (setting_of terms.now)) (λ i. or_else false (said_fine (posts_of self.now) i)) }
+    fn fines(&self) -> usize
+        ensures { result ≡ count (keepers (setting_of self.now.terms)) (λ i. or_else false (said_fine (posts_of self.now.board) i)) }
     {
-        let mut fines = 0;
-        for i in 0..terms.keepers() {
-            if self.fine(i) {
-                fines += 1;
-            }
-        }
-        fines
+        (0..self.terms.keepers())
+            .filter(|i| self.board.said_fine(*i).unwrap_or(false))
+            .count()
     }
 
     // Is the dealing accepted?
-    pub fn accepted(&self, terms: &Terms) -> bool
-        ensures { result ≡ accepted (setting_of terms.now) (posts_of self.now) }
+    pub fn accepted(&self) -> bool
+        ensures { result ≡ accepted (setting_of self.now.terms) (posts_of self.now.board) }
     {
-        self.fines(terms) >= 2 * terms.f + 1
+        self.fines() >= 2 * usize::from(self.terms.f) + 1
     }
 }

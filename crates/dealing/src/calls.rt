@@ -1,6 +1,5 @@
 // The rounds of a seat, from the first to what is kept.
-ghost use Rattle.std.specs.Prelude.{◌≡◌, ℕ, ◌+◌, ◌*◌, ◌<◌, ◌≤◌, MatchOption};
-ghost use Rattle.algebra.specs.Prime.{p};
+ghost use Rattle.std.specs.Prelude.{◌≡◌, ◌+◌, ◌*◌, ◌<◌, ◌≤◌, MatchOption};
 ghost use Rattle.dealing.specs.Model.{hand_of, number, posts_of, state_of, terms_of};
 ghost use Rattle.polynomial.specs.Lists.{held, rows_of};
 ghost use Rattle.rules.specs.Rounds.{nothing_heard, nothing_posted};
@@ -19,7 +18,8 @@ impl Terms {
         if f > 5 || dealer >= 3 * f + 1 || me >= 3 * f + 1 {
             return None;
         }
-        if shape.high() > f as usize + 1 || shape.low() > f as usize + 1 {
+        let most = usize::from(f) + 1;
+        if shape.high() > most || shape.low() > most {
             return None;
         }
         Some(Terms {
@@ -74,55 +74,46 @@ impl Seat {
     fn own_deal(&self) -> Option<Share>
         ensures { option_map held result ≡ own_deal (terms_of self.now.terms) (state_of self.now) }
     {
-        match self.deals() {
-            Some(dealt) => Some(dealt.share(self.terms.me)),
-            None => None,
-        }
+        self.deals().map(|dealt| dealt.share(self.terms.me))
     }
 
     // The share that the keeper goes on with: what was revealed of it, or else what it got.
     pub fn own(&self) -> Share
         ensures { held result ≡ own_share (terms_of self.now.terms) (state_of self.now) }
     {
-        match self.board.revealed(self.terms.me) {
-            Some(share) => share,
-            None => self.hand.mine(&self.terms),
-        }
+        self.board
+            .revealed(self.terms.me)
+            .unwrap_or_else(|| self.mine())
     }
 
     // The value of an accepted dealing.
     fn decided(&self) -> Option<Element>
         ensures { option_map number result ≡ decided (terms_of self.now.terms) (state_of self.now) }
     {
-        if self.board.accepted(&self.terms) {
-            Some(self.own().value())
-        } else {
-            None
-        }
+        self.accepted().then(|| self.own().value())
     }
 
     // The next round is called. The last keeps the value of an accepted dealing and forgets all else.
-    pub fn call(self) -> Seat
-        ensures { (state_of result ≡ called (terms_of self.terms) (state_of self)) × (result.terms ≡ self.terms) }
+    pub fn call(&mut self)
+        ensures called { state_of self.new ≡ called (terms_of self.old.terms) (state_of self.old) }
+        ensures terms { self.new.terms ≡ self.old.terms }
     {
-        let mut next = self;
         match self.round {
             Round::Before => {
-                next.round = Round::Deal;
-                next.hand.share = self.own_deal();
+                self.hand.share = self.own_deal();
+                self.round = Round::Deal;
             }
-            Round::Deal => next.round = Round::Tell,
-            Round::Tell => next.round = Round::Complain,
-            Round::Complain => next.round = Round::Reveal,
-            Round::Reveal => next.round = Round::Judge,
+            Round::Deal => self.round = Round::Tell,
+            Round::Tell => self.round = Round::Complain,
+            Round::Complain => self.round = Round::Reveal,
+            Round::Reveal => self.round = Round::Judge,
             Round::Judge => {
-                next.round = Round::Decided;
-                next.kept = self.decided();
-                next.chance = None;
-                next.hand = Hand::empty();
+                self.kept = self.decided();
+                self.chance = None;
+                self.hand = Hand::empty();
+                self.round = Round::Decided;
             }
             Round::Decided => {}
         }
-        next
     }
 }

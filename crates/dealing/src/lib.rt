@@ -5,8 +5,10 @@ mod board;
 mod calls;
 mod going;
 mod hand;
+mod numbers;
+mod places;
 mod seat;
 mod types;
 
 pub use going::go_on;
-pub use types::{Answer, Board, Hand, Refusal, Round, Seat, Terms};
+pub use types::{Board, Hand, Refusal, Round, Seat, Terms};

@@ -1,210 +1,158 @@
 // A seat in a dealing, message by message.
-ghost use Rattle.dealing.specs.Model.{Answered, round_for, state_of, terms_of};
+ghost use Rattle.dealing.specs.Model.{Answered, Heard, Posted, refusal_of, round_of, state_of, terms_of};
 ghost use Rattle.message.specs.Model.{message_of};
 ghost use Rattle.polynomial.specs.Lists.{held, rows_of, said};
 ghost use Rattle.rules.specs.Message as rules;
-ghost use Rattle.rules.specs.Seat.{answer_to, board_bytes, board_taken, complaint_to, judgement, line_of, mail_bytes, mail_taken, mail_to, timely};
-ghost use Rattle.std.specs.Option.{option_map};
-ghost use Rattle.std.specs.Prelude.{◌≡◌, ◌<◌, if◌then◌else◌, Some, None, nat_eq};
+ghost use Rattle.rules.specs.Seat.{answer_to, board_bytes, board_taken, complaint_to, judgement, line_of, mail_bytes, mail_taken, mail_to, timely, unless};
+ghost use Rattle.std.specs.Option.{option_copied, option_map};
+ghost use Rattle.std.specs.Prelude.{◌≡◌, if◌then◌else◌, OnErr, Some, None, nat_eq};
 
-use crate::types::{Answer, Kind, Refusal, Round, Seat};
-use message::{Message, read};
+use crate::types::{Refusal, Round, Seat};
+use message::{Body, Head, Message, read};
 use polynomial::{Bivariate, Pair, Share};
 
 impl Seat {
-    // Is it this night, and the round of such messages?
-    fn timely(&self, kind: Kind, night: u32) -> bool
-        ensures { result ≡ timely (terms_of self.now.terms) (state_of self.now) night (round_for kind) }
+    // A message of this dealing, in the round that is called.
+    fn expect(&self, round: Round, head: Head) -> Result<(), Refusal>
+        ensures { refusal_of result ≡ unless (timely (terms_of self.now.terms) (state_of self.now) head.night (round_of round)) 2 (unless (nat_eq head.dealer self.now.terms.dealer) 3 None) }
     {
-        match (kind, self.round) {
-            (Kind::Share, Round::Deal)
-            | (Kind::Told, Round::Tell)
-            | (Kind::Complaint, Round::Complain)
-            | (Kind::Reveal, Round::Reveal)
-            | (Kind::Fine, Round::Judge) => night == self.terms.night,
-            _ => false,
+        if head.night != self.terms.night || self.round != round {
+            return Err(Refusal::Untimely);
         }
+        if head.dealer != self.terms.dealer {
+            return Err(Refusal::Unentitled);
+        }
+        Ok(())
     }
 
-    fn hear_share(self, from: u8, night: u32, dealer: u8, share: Share) -> (Seat, Answer)
-        ensures { Answered self (mail_taken (terms_of self.terms) (state_of self) from (rules.Share night dealer (held share))) result }
+    fn hear_share(&mut self, from: u8, head: Head, share: Share) -> Result<(), Refusal>
+        ensures { Heard self.old from (rules.Share head.night head.dealer (held share)) self.new result }
     {
-        if from >= self.terms.keepers() {
-            return (self, Answer::Refused(Refusal::Malformed));
+        self.expect(Round::Deal, head)?;
+        if from != self.terms.dealer || from == self.terms.me || self.hand.share.is_some() {
+            return Err(Refusal::Unentitled);
         }
-        if !self.timely(Kind::Share, night) {
-            return (self, Answer::Refused(Refusal::Untimely));
-        }
-        if dealer != self.terms.dealer
-            || from != self.terms.dealer
-            || from == self.terms.me
-            || self.hand.share.is_some()
-        {
-            return (self, Answer::Refused(Refusal::Unentitled));
-        }
-        let mut next = self;
-        next.hand.share = Some(share);
-        (next, Answer::Taken)
+        self.hand.share = Some(share);
+        Ok(())
     }
 
-    fn hear_told(self, from: u8, night: u32, dealer: u8, pair: Pair) -> (Seat, Answer)
-        ensures { Answered self (mail_taken (terms_of self.terms) (state_of self) from (rules.Told night dealer (said pair))) result }
+    fn hear_told(&mut self, from: u8, head: Head, pair: Pair) -> Result<(), Refusal>
+        ensures { Heard self.old from (rules.Told head.night head.dealer (said pair)) self.new result }
     {
-        if from >= self.terms.keepers() {
-            return (self, Answer::Refused(Refusal::Malformed));
+        self.expect(Round::Tell, head)?;
+        if from == self.terms.me || self.hand.told_by(from).is_some() {
+            return Err(Refusal::Unentitled);
         }
-        if !self.timely(Kind::Told, night) {
-            return (self, Answer::Refused(Refusal::Untimely));
-        }
-        if dealer != self.terms.dealer
-            || from == self.terms.me
-            || self.hand.told_by(from).is_some()
-        {
-            return (self, Answer::Refused(Refusal::Unentitled));
-        }
-        let mut next = self;
-        next.hand = self.hand.with_told(from, pair);
-        (next, Answer::Taken)
+        self.hand.tell(from, pair);
+        Ok(())
     }
 
     // Takes a message that keeper `from` sent, or turns it away.
-    pub fn hear(self, from: u8, message: Message) -> (Seat, Answer)
-        ensures { Answered self (mail_taken (terms_of self.terms) (state_of self) from (message_of message)) result }
+    pub fn hear(&mut self, from: u8, message: Message) -> Result<(), Refusal>
+        ensures ruled { Answered self.old (mail_taken (terms_of self.old.terms) (state_of self.old) from (message_of message)) self.new result }
+        ensures refused { OnErr result (self.new ≡ self.old) }
     {
-        match message {
-            Message::Share {
-                night,
-                dealer,
-                share,
-            } => self.hear_share(from, night, dealer, share),
-            Message::Told {
-                night,
-                dealer,
-                pair,
-            } => self.hear_told(from, night, dealer, pair),
-            Message::Value { .. } if from < self.terms.keepers() => (
-                self,
-                Answer::Refused(Refusal::Untimely),
-            ),
-            _ => (self, Answer::Refused(Refusal::Malformed)),
+        if from >= self.terms.keepers() {
+            return Err(Refusal::Malformed);
+        }
+        let Message { head, body } = message;
+        match body {
+            Body::Share(share) => self.hear_share(from, head, share),
+            Body::Told(pair) => self.hear_told(from, head, pair),
+            Body::Value { .. } => Err(Refusal::Untimely),
+            _ => Err(Refusal::Malformed),
         }
     }
 
     fn post_complaint(
-        self,
+        &mut self,
         who: u8,
-        night: u32,
-        dealer: u8,
+        head: Head,
         by: u8,
         about: u8,
         pair: Pair,
-    ) -> (Seat, Answer)
-        ensures { Answered self (board_taken (terms_of self.terms) (state_of self) who (rules.Complaint night dealer by about (said pair))) result }
+    ) -> Result<(), Refusal>
+        ensures { Posted self.old who (rules.Complaint head.night head.dealer by about (said pair)) self.new result }
     {
-        if who >= self.terms.keepers() || about >= self.terms.keepers() {
-            return (self, Answer::Refused(Refusal::Malformed));
+        if about >= self.terms.keepers() {
+            return Err(Refusal::Malformed);
         }
-        if !self.timely(Kind::Complaint, night) {
-            return (self, Answer::Refused(Refusal::Untimely));
-        }
-        if dealer != self.terms.dealer || by != who || self.board.complaint(who, about).is_some() {
-            return (self, Answer::Refused(Refusal::Unentitled));
+        self.expect(Round::Complain, head)?;
+        if by != who || self.board.complaint(who, about).is_some() {
+            return Err(Refusal::Unentitled);
         }
         if by == about {
-            return (self, Answer::Refused(Refusal::Improper));
+            return Err(Refusal::Improper);
         }
-        let mut next = self;
-        next.board = self.board.with_complaint(by, about, pair);
-        (next, Answer::Taken)
+        self.board.complain(by, about, pair);
+        Ok(())
     }
 
-    fn post_reveal(
-        self,
-        who: u8,
-        night: u32,
-        dealer: u8,
-        keeper: u8,
-        share: Share,
-    ) -> (Seat, Answer)
-        ensures { Answered self (board_taken (terms_of self.terms) (state_of self) who (rules.Reveal night dealer keeper (held share))) result }
+    fn post_reveal(&mut self, who: u8, head: Head, keeper: u8, share: Share) -> Result<(), Refusal>
+        ensures { Posted self.old who (rules.Reveal head.night head.dealer keeper (held share)) self.new result }
     {
-        if who >= self.terms.keepers() || keeper >= self.terms.keepers() {
-            return (self, Answer::Refused(Refusal::Malformed));
+        if keeper >= self.terms.keepers() {
+            return Err(Refusal::Malformed);
         }
-        if !self.timely(Kind::Reveal, night) {
-            return (self, Answer::Refused(Refusal::Untimely));
+        self.expect(Round::Reveal, head)?;
+        if who != self.terms.dealer || self.board.revealed(keeper).is_some() {
+            return Err(Refusal::Unentitled);
         }
-        if dealer != self.terms.dealer
-            || who != self.terms.dealer
-            || self.board.revealed(keeper).is_some()
-        {
-            return (self, Answer::Refused(Refusal::Unentitled));
+        if !self.complained(keeper) {
+            return Err(Refusal::Improper);
         }
-        if !self.board.complained(&self.terms, keeper) {
-            return (self, Answer::Refused(Refusal::Improper));
-        }
-        let mut next = self;
-        next.board = self.board.with_reveal(who, keeper, share);
-        (next, Answer::Taken)
+        self.board.reveal(keeper, share);
+        Ok(())
     }
 
-    fn post_fine(self, who: u8, night: u32, dealer: u8, keeper: u8, fine: bool) -> (Seat, Answer)
-        ensures { Answered self (board_taken (terms_of self.terms) (state_of self) who (rules.Fine night dealer keeper fine)) result }
+    fn post_fine(&mut self, who: u8, head: Head, keeper: u8, fine: bool) -> Result<(), Refusal>
+        ensures { Posted self.old who (rules.Fine head.night head.dealer keeper fine) self.new result }
     {
-        if who >= self.terms.keepers() {
-            return (self, Answer::Refused(Refusal::Malformed));
+        self.expect(Round::Judge, head)?;
+        if keeper != who || self.board.said_fine(who).is_some() {
+            return Err(Refusal::Unentitled);
         }
-        if !self.timely(Kind::Fine, night) {
-            return (self, Answer::Refused(Refusal::Untimely));
-        }
-        if dealer != self.terms.dealer || keeper != who || self.board.said_fine(who).is_some() {
-            return (self, Answer::Refused(Refusal::Unentitled));
-        }
-        let mut next = self;
-        next.board = self.board.with_fine(keeper, fine);
-        (next, Answer::Taken)
+        self.board.judge(keeper, fine);
+        Ok(())
     }
 
     // Takes a line of the board that keeper `who` put there, or passes it over.
-    pub fn post(self, who: u8, message: Message) -> (Seat, Answer)
-        ensures { Answered self (board_taken (terms_of self.terms) (state_of self) who (message_of message)) result }
+    pub fn post(&mut self, who: u8, message: Message) -> Result<(), Refusal>
+        ensures ruled { Answered self.old (board_taken (terms_of self.old.terms) (state_of self.old) who (message_of message)) self.new result }
+        ensures refused { OnErr result (self.new ≡ self.old) }
     {
-        match message {
-            Message::Complaint {
-                night,
-                dealer,
-                by,
-                about,
-                pair,
-            } => self.post_complaint(who, night, dealer, by, about, pair),
-            Message::Reveal {
-                night,
-                dealer,
-                keeper,
-                share,
-            } => self.post_reveal(who, night, dealer, keeper, share),
-            Message::Fine {
-                night,
-                dealer,
-                keeper,
-                fine,
-            } => self.post_fine(who, night, dealer, keeper, fine),
-            Message::Finished { .. } if who < self.terms.keepers() => (
-                self,
-                Answer::Refused(Refusal::Untimely),
-            ),
-            _ => (self, Answer::Refused(Refusal::Malformed)),
+        if who >= self.terms.keepers() {
+            return Err(Refusal::Malformed);
+        }
+        let Message { head, body } = message;
+        match body {
+            Body::Complaint { by, about, pair } => self.post_complaint(who, head, by, about, pair),
+            Body::Reveal { keeper, share } => self.post_reveal(who, head, keeper, share),
+            Body::Fine { keeper, fine } => self.post_fine(who, head, keeper, fine),
+            Body::Finished { .. } => Err(Refusal::Untimely),
+            _ => Err(Refusal::Malformed),
         }
     }
 
     // The polynomial of a dealer.
-    pub(crate) fn deals(&self) -> Option<Bivariate>
-        ensures { option_map rows_of result ≡ (if nat_eq self.now.terms.me self.now.terms.dealer then option_map rows_of self.now.chance else None) }
+    pub(crate) fn deals(&self) -> Option<&Bivariate>
+        ensures { option_map rows_of (option_copied result) ≡ (if nat_eq self.now.terms.me self.now.terms.dealer then option_map rows_of self.now.chance else None) }
     {
-        if self.terms.me == self.terms.dealer {
-            self.chance
-        } else {
-            None
+        self.chance
+            .as_ref()
+            .filter(|_| self.terms.me == self.terms.dealer)
+    }
+
+    // What it says, as a message of this dealing.
+    fn says(&self, body: Body) -> Message
+        ensures { result ≡ record { head = record { night = self.now.terms.night; dealer = self.now.terms.dealer }; body = body } }
+    {
+        Message {
+            head: Head {
+                night: self.terms.night,
+                dealer: self.terms.dealer,
+            },
+            body,
         }
     }
 
@@ -215,70 +163,40 @@ impl Seat {
         if j == self.terms.me || j >= self.terms.keepers() {
             return None;
         }
-        let night = self.terms.night;
-        let dealer = self.terms.dealer;
         match self.round {
-            Round::Deal => match self.deals() {
-                Some(dealt) => Some(Message::Share {
-                    night,
-                    dealer,
-                    share: dealt.share(j),
-                }),
-                None => None,
-            },
-            Round::Tell => Some(Message::Told {
-                night,
-                dealer,
-                pair: self.hand.mine(&self.terms).pair_at(j),
-            }),
+            Round::Deal => self
+                .deals()
+                .map(|dealt| self.says(Body::Share(dealt.share(j)))),
+            Round::Tell => Some(self.says(Body::Told(self.mine().pair_at(j)))),
             _ => None,
         }
     }
 
     fn complaint_about(&self, k: u8) -> Option<Message>
-        requires { k < 16 }
         ensures { option_map message_of result ≡ complaint_to (terms_of self.now.terms) (state_of self.now) k }
     {
-        if !self.hand.doubts(&self.terms, k) {
-            return None;
-        }
-        let terms = self.terms;
-        Some(Message::Complaint {
-            night: terms.night,
-            dealer: terms.dealer,
-            by: terms.me,
+        self.doubts(k).then(|| self.says(Body::Complaint {
+            by: self.terms.me,
             about: k,
-            pair: self.hand.mine(&terms).pair_at(k),
-        })
+            pair: self.mine().pair_at(k),
+        }))
     }
 
     fn answer_to(&self, dealt: &Bivariate, k: u8) -> Option<Message>
-        requires { k < 16 }
         ensures { option_map message_of result ≡ answer_to (terms_of self.now.terms) (state_of self.now) (Some (rows_of dealt.now)) k }
     {
         let share = dealt.share(k);
-        if !self.board.wrong(&self.terms, &share, k) {
-            return None;
-        }
-        Some(Message::Reveal {
-            night: self.terms.night,
-            dealer: self.terms.dealer,
-            keeper: k,
-            share,
-        })
+        self.wrong(&share, k)
+            .then(|| self.says(Body::Reveal { keeper: k, share }))
     }
 
     fn judgement(&self) -> Message
         ensures { message_of result ≡ judgement (terms_of self.now.terms) (state_of self.now) }
     {
-        let terms = self.terms;
-        let fine = self.board.all_fits(&terms, &self.hand.mine(&terms));
-        Message::Fine {
-            night: terms.night,
-            dealer: terms.dealer,
-            keeper: terms.me,
-            fine,
-        }
+        self.says(Body::Fine {
+            keeper: self.terms.me,
+            fine: self.all_fits(),
+        })
     }
 
     // What it puts on the board in the round that is called: a line for each keeper k, or none.
@@ -290,32 +208,27 @@ impl Seat {
         }
         match self.round {
             Round::Complain => self.complaint_about(k),
-            Round::Reveal => match self.deals() {
-                Some(dealt) => self.answer_to(&dealt, k),
-                None => None,
-            },
+            Round::Reveal => self.deals().and_then(|dealt| self.answer_to(dealt, k)),
             Round::Judge if k == self.terms.me => Some(self.judgement()),
             _ => None,
         }
     }
 
     // Takes what keeper `from` sent, or turns it away.
-    pub fn take_mail(self, from: u8, bytes: &[u8]) -> (Seat, Answer)
-        ensures { Answered self (mail_bytes (terms_of self.terms) (state_of self) from bytes.now) result }
+    pub fn take_mail(&mut self, from: u8, bytes: &[u8]) -> Result<(), Refusal>
+        ensures ruled { Answered self.old (mail_bytes (terms_of self.old.terms) (state_of self.old) from bytes.now) self.new result }
+        ensures refused { OnErr result (self.new ≡ self.old) }
     {
-        match read(bytes, self.terms.keepers(), self.terms.shape) {
-            Ok(message) => self.hear(from, message),
-            Err(_) => (self, Answer::Refused(Refusal::Malformed)),
-        }
+        let message = read(bytes, self.terms.keepers(), self.terms.shape)?;
+        self.hear(from, message)
     }
 
     // Takes a line of the board that keeper `who` put there, or passes it over.
-    pub fn take_board(self, who: u8, bytes: &[u8]) -> (Seat, Answer)
-        ensures { Answered self (board_bytes (terms_of self.terms) (state_of self) who bytes.now) result }
+    pub fn take_board(&mut self, who: u8, bytes: &[u8]) -> Result<(), Refusal>
+        ensures ruled { Answered self.old (board_bytes (terms_of self.old.terms) (state_of self.old) who bytes.now) self.new result }
+        ensures refused { OnErr result (self.new ≡ self.old) }
     {
-        match read(bytes, self.terms.keepers(), self.terms.shape) {
-            Ok(message) => self.post(who, message),
-            Err(_) => (self, Answer::Refused(Refusal::Malformed)),
-        }
+        let message = read(bytes, self.terms.keepers(), self.terms.shape)?;
+        self.post(who, message)
     }
 }

@@ -1,11 +1,11 @@
 // What a keeper holds of a dealing, and what stands on the board about it.
-ghost use Rattle.std.specs.Prelude.{◌≡◌, ◌+◌, ◌*◌, ◌<◌, ◌≤◌, length};
+ghost use Rattle.std.specs.Prelude.{◌+◌, ◌*◌, ◌<◌, ◌≤◌};
 
 use field::Element;
 use polynomial::{Bivariate, Pair, Shape, Share};
 
 // The round that is called.
-#[derive(Clone, Copy)]
+#[derive(Clone, Copy, Debug, PartialEq, Eq)]
 pub enum Round {
     // Before the first.
     Before,
@@ -23,33 +23,17 @@ pub enum Round {
     Decided,
 }
 
-// What a message of a dealing is about: each kind belongs to a round.
-#[derive(Clone, Copy)]
-pub(crate) enum Kind {
-    Share,
-    Told,
-    Complaint,
-    Reveal,
-    Fine,
-}
-
-// Why a message is turned away; specs/ gives each its number.
-#[derive(Clone, Copy)]
+// Why a message is turned away, by its number.
+#[derive(Clone, Copy, Debug, PartialEq, Eq)]
 pub enum Refusal {
     // No message: an unknown first byte, a wrong length, a number or a keeper out of range.
-    Malformed,
+    Malformed = 1,
     // Another round or night.
     Untimely,
     // From another than who may send it, or said already.
     Unentitled,
     // A complaint about oneself, or a reveal of a keeper that didn't complain.
     Improper,
-}
-
-#[derive(Clone, Copy)]
-pub enum Answer {
-    Taken,
-    Refused(Refusal),
 }
 
 // What doesn't change: f, the night, who deals, whose seat it is, and how long shares are.
@@ -80,7 +64,6 @@ pub struct Board {
     pub complaints: [[Option<Pair>; 16]; 16],
     pub reveals: [Option<Share>; 16],
     pub fines: [Option<bool>; 16],
-    ghost places: { length reveals ≡ 16 },
 }
 
 // One keeper's seat in one dealing.

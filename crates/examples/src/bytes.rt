@@ -1,23 +1,25 @@
 // Bytes worked out by hand.
-use message::{Message, read, write};
+use message::{Body, Head, Message, read, write};
 use polynomial::{Pair, Shape};
 use std::test::Fail;
 
 #[test]
 fn complaint(rt: HostRuntime) -> Result<(), Fail> {
-    let Some(shape) = Shape::new(2, 2) else {
-        return Err(Fail::new("no shape"));
-    };
+    let shape = Shape::new(2, 2).ok_or_else(|| Fail::new("no shape"))?;
     let pair = Pair {
         across: 0x0102_0304_0506_0708,
         down: 5,
     };
-    let said = Message::Complaint {
-        night: 0x0a0b_0c0d,
-        dealer: 2,
-        by: 1,
-        about: 3,
-        pair,
+    let said = Message {
+        head: Head {
+            night: 0x0a0b_0c0d,
+            dealer: 2,
+        },
+        body: Body::Complaint {
+            by: 1,
+            about: 3,
+            pair,
+        },
     };
     let bytes = write(rt.alloc(), &said)?;
     let wanted =
@@ -27,9 +29,7 @@ fn complaint(rt: HostRuntime) -> Result<(), Fail> {
         read(bytes.as_slice(), 3, shape).is_err(),
         "keeper 3 is not among three"
     );
-    let Ok(back) = read(bytes.as_slice(), 4, shape) else {
-        return Err(Fail::new("refused"));
-    };
+    let back = read(bytes.as_slice(), 4, shape).map_err(|_| Fail::new("refused"))?;
     let again = write(rt.alloc(), &back)?;
     assert!(rt; again.as_slice() == wanted.as_slice());
     Ok(())

@@ -1,5 +1,5 @@
 -- Euclid's algorithm for an inverse modulo p, with factors that never pass p.
-use Rattle.std.proofs.Common.{◌≡◌, ℕ, zero, suc, ◌+◌, ◌-◌, ◌*◌, ◌/◌, ◌%◌, ◌<◌, ◌≤◌, Bool, true, false, not, ◌≢◌, ap, mul-le-mul_right, mod-lt, mul-le-mul_left, arith}
+use Rattle.std.proofs.Common.{◌≡◌, ℕ, zero, suc, ◌+◌, ◌-◌, ◌*◌, ◌/◌, ◌%◌, ◌<◌, ◌≤◌, Bool, true, false, not, ◌≢◌, ap, mul-le-mul_right, mod-lt, mod-eq_of_lt, mul-le-mul_left, arith}
 use native.Mathlib.Nat.{div-add-mod}
 use Rattle.algebra.specs.Prime.{p}
 use Rattle.algebra.proofs.Same.{Same, rest, whole, so, ◌⊞◌, ◌⊟◌, ◌⊠◌}
@@ -80,13 +80,15 @@ module _ (a over left before by : ℕ) where
 one : 1 % p ≡ 1
 one = omega arith
 
-pub found : (a over before by : ℕ) → Step false a over 1 before by → (by < p) × ((a * by) % p ≡ 1)
-found a over before by s = (below, omega (arith, rest s.here, one))
-  where
-    below : by < p
-    below = omega (arith, s.whole, s.less, s.one, mul-le-mul_right {m = 2} {n = over} by (omega (arith, s.less)))
+pub below : (negated : Bool) (a over before by : ℕ) → Step negated a over 1 before by → by < p
+below negated a over before by s = omega (arith, s.whole, s.less, s.one, mul-le-mul_right {m = 2} {n = over} by (omega (arith, s.less)))
 
-pub found_negated : (a over before by : ℕ) → Step true a over 1 before by → (p - by < p) × ((a * (p - by)) % p ≡ 1)
+pub found : (a over before by : ℕ) → Step false a over 1 before by → (a * by) % p ≡ 1
+found a over before by s = omega (arith, rest s.here, one)
+
+pub found_negated : (a over before by : ℕ) → Step true a over 1 before by → (a * ((p - by) % p)) % p ≡ 1
 found_negated a over before by s =
-    let all : p - by + by ≡ p = omega (arith, s.whole, mul-le-mul_right {m = 1} {n = over} by (omega (arith, s.less))) in
-    (omega (arith, s.one), omega (arith, rest (so {a = a * (p - by)} {b = 1} (whole p a ⊟ s.here) (omega (arith, ap (λ n. a * n) all))), one))
+    let small = below true a over before by s in
+    let inside : p - by < p = omega (arith, s.one) in
+    let all : (p - by) % p + by ≡ p = omega (arith, mod-eq_of_lt inside) in
+    omega (arith, rest (so {a = a * ((p - by) % p)} {b = 1} (whole p a ⊟ s.here) (omega (arith, ap (λ n. a * n) all))), one)

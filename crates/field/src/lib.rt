@@ -2,7 +2,5 @@
 #![tactic(auto)]
 
 mod element;
-mod residue;
 
-pub use element::Element;
-pub use residue::P;
+pub use element::{Element, OutOfRange, P};

@@ -1,10 +1,12 @@
 // Messages and their bytes.
 #![tactic(auto)]
 
+mod kind;
 mod reading;
 mod types;
 mod writing;
 
+pub use kind::Kind;
 pub use reading::read;
-pub use types::{Malformed, Message};
+pub use types::{Body, Head, Malformed, Message};
 pub use writing::write;

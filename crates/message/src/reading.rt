@@ -1,197 +1,202 @@
 // From bytes to a message.
-ghost use Rattle.std.specs.Prelude.{◌≡◌, ◌+◌, ◌*◌, ◌<◌, ◌≤◌, length, Some, None, MatchResult, ◌≢◌, slice_index};
+ghost use Rattle.std.specs.Prelude.{◌≡◌, ◌+◌, ◌*◌, ◌<◌, ◌≤◌, length, Some, None, MatchResult, ◌≢◌, slice_index, slice_range, nat_lt};
+ghost use Rattle.algebra.specs.Prime.{p};
 ghost use Rattle.message.specs.Model.{Gives, Reads, message_of};
 ghost use Rattle.polynomial.specs.Lists.{coeffs, held, said};
 ghost use Rattle.rules.specs.Message as rules;
-ghost use Rattle.rules.specs.Wire.{InRange, by_kind, number4, number8, pair_from, parse, read_complaint, read_fine, read_finished, read_reveal, read_share, read_told, read_value, row_at, share_at, small, small_pair, small_share, wire};
+ghost use Rattle.rules.specs.Wire.{InRange, by_kind, number8, pair_from, parse, read_complaint, read_fine, read_finished, read_reveal, read_share, read_told, read_value, row_at, share_at, small, small_pair, small_share, wire};
 
-use crate::types::{Malformed, Message};
+use crate::kind::Kind;
+use crate::types::{Body, Head, Malformed, Message};
 use field::{Element, P};
 use polynomial::{Pair, Polynomial, Shape, Share};
 
-// The number of four bytes at a place.
-fn four(bytes: &[u8], place: usize) -> u32
-    requires { place + 4 ≤ length bytes.now }
-    ensures { result ≡ number4 bytes.now place }
+// So many bytes at a place.
+fn array_at<const N: usize>(bytes: &[u8], place: usize) -> [u8; N]
+    requires { place + N ≤ length bytes.now }
+    ensures { result ≡ slice_range bytes.now place (place + N) }
 {
-    u32::from_be_bytes([
-        bytes[place],
-        bytes[place + 1],
-        bytes[place + 2],
-        bytes[place + 3],
-    ])
+    *bytes[place..].first_chunk().unwrap()
 }
 
-// The number of eight bytes at a place.
-fn eight(bytes: &[u8], place: usize) -> u64
-    requires { place + 8 ≤ length bytes.now }
-    ensures { result ≡ number8 bytes.now place }
-{
-    u64::from_be_bytes([
-        bytes[place],
-        bytes[place + 1],
-        bytes[place + 2],
-        bytes[place + 3],
-        bytes[place + 4],
-        bytes[place + 5],
-        bytes[place + 6],
-        bytes[place + 7],
-    ])
+// The bytes of a message with their head, and whom they are read for: so many keepers, with shares of this shape.
+#[derive(Clone, Copy)]
+struct Frame<'a> {
+    bytes: &'a [u8],
+    keepers: u8,
+    shape: Shape,
+    head: Head,
 }
 
-// A row of so many numbers, if each is below P.
-fn row_at(bytes: &[u8], place: usize, count: usize) -> Option<Polynomial>
-    requires { (place + 8 * count ≤ length bytes.now) × (count ≤ 6) }
-    ensures { Gives coeffs result (small (row_at bytes.now place count)) (row_at bytes.now place count) }
-{
-    let mut numbers = [Element::zero(); 6];
-    for k in 0..count {
-        numbers[k] = Element::new(eight(bytes, place + 8 * k))?;
+impl Frame<'_> {
+    // The bytes are so many.
+    fn check_len(&self, len: usize) -> Result<(), Malformed>
+        ensures { MatchResult result (λ _. length self.now.bytes.now ≡ len) (λ _. length self.now.bytes.now ≢ len) }
+    {
+        if self.bytes.len() != len {
+            return Err(Malformed);
+        }
+        Ok(())
     }
-    Polynomial::from_slice(&numbers[0..count])
-}
 
-// A share, across and then down, if its numbers are below P.
-fn share_at(bytes: &[u8], place: usize, shape: Shape) -> Option<Share>
-    requires { place + 8 * (shape.high + shape.low) ≤ length bytes.now }
-    ensures { Gives held result (small_share (share_at shape.high shape.low bytes.now place)) (share_at shape.high shape.low bytes.now place) }
-{
-    let across = row_at(bytes, place, shape.high())?;
-    let down = row_at(bytes, place + 8 * shape.high(), shape.low())?;
-    Some(Share { across, down })
-}
-
-// A pair, if its numbers are below P.
-fn pair_at(bytes: &[u8], place: usize) -> Option<Pair>
-    requires { place + 16 ≤ length bytes.now }
-    ensures { Gives said result (small_pair (pair_from bytes.now place)) (pair_from bytes.now place) }
-{
-    let across = eight(bytes, place);
-    let down = eight(bytes, place + 8);
-    if across >= P || down >= P {
-        return None;
+    // The keeper at a place.
+    fn keeper_at(&self, place: usize) -> Result<u8, Malformed>
+        requires { place < length self.now.bytes.now }
+        ensures { Gives (λ keeper. keeper) result (nat_lt (slice_index self.now.bytes.now place) self.now.keepers) (slice_index self.now.bytes.now place) }
+    {
+        let keeper = self.bytes[place];
+        if keeper >= self.keepers {
+            return Err(Malformed);
+        }
+        Ok(keeper)
     }
-    Some(Pair { across, down })
-}
 
-// Each kind of message.
-fn read_share(bytes: &[u8], night: u32, dealer: u8, shape: Shape) -> Option<Message>
-    ensures { Reads result (read_share shape.high shape.low bytes.now night dealer) }
-{
-    if bytes.len() != 6 + 8 * (shape.high() + shape.low()) {
-        return None;
+    // The number of eight bytes at a place.
+    fn number_at(&self, place: usize) -> u64
+        requires { place + 8 ≤ length self.now.bytes.now }
+        ensures { result ≡ number8 self.now.bytes.now place }
+    {
+        u64::from_be_bytes(array_at(self.bytes, place))
     }
-    let share = share_at(bytes, 6, shape)?;
-    Some(Message::Share {
-        night,
-        dealer,
-        share,
-    })
-}
 
-fn read_told(bytes: &[u8], night: u32, dealer: u8) -> Option<Message>
-    ensures { Reads result (read_told bytes.now night dealer) }
-{
-    if bytes.len() != 22 {
-        return None;
+    // That number, if it is below P.
+    fn element_at(&self, place: usize) -> Result<Element, Malformed>
+        requires { place + 8 ≤ length self.now.bytes.now }
+        ensures { Gives (λ e. e.value) result (nat_lt (number8 self.now.bytes.now place) p) (number8 self.now.bytes.now place) }
+    {
+        Ok(Element::try_from(self.number_at(place))?)
     }
-    let pair = pair_at(bytes, 6)?;
-    Some(Message::Told {
-        night,
-        dealer,
-        pair,
-    })
-}
 
-fn read_complaint(bytes: &[u8], night: u32, dealer: u8, keepers: u8) -> Option<Message>
-    ensures { Reads result (read_complaint keepers bytes.now night dealer) }
-{
-    if bytes.len() != 24 || bytes[6] >= keepers || bytes[7] >= keepers {
-        return None;
+    // A row of so many numbers, if each is below P.
+    fn row_at(&self, place: usize, count: usize) -> Result<Polynomial, Malformed>
+        requires { (place + 8 * count ≤ length self.now.bytes.now) × (count ≤ 6) }
+        ensures { Gives coeffs result (small (row_at self.now.bytes.now place count)) (row_at self.now.bytes.now place count) }
+    {
+        let mut numbers = [Element::zero(); 6];
+        let row = &mut numbers[..count];
+        for (k, number) in row.iter_mut().enumerate() {
+            *number = self.element_at(place + 8 * k)?;
+        }
+        Polynomial::from_slice(row).ok_or(Malformed)
     }
-    let pair = pair_at(bytes, 8)?;
-    Some(Message::Complaint {
-        night,
-        dealer,
-        by: bytes[6],
-        about: bytes[7],
-        pair,
-    })
-}
 
-fn read_reveal(bytes: &[u8], night: u32, dealer: u8, keepers: u8, shape: Shape) -> Option<Message>
-    ensures { Reads result (read_reveal keepers shape.high shape.low bytes.now night dealer) }
-{
-    if bytes.len() != 7 + 8 * (shape.high() + shape.low()) || bytes[6] >= keepers {
-        return None;
+    // A share, across and then down, if its numbers are below P.
+    fn share_at(&self, place: usize) -> Result<Share, Malformed>
+        requires { place + 8 * (self.now.shape.high + self.now.shape.low) ≤ length self.now.bytes.now }
+        ensures { Gives held result (small_share (share_at self.now.shape.high self.now.shape.low self.now.bytes.now place)) (share_at self.now.shape.high self.now.shape.low self.now.bytes.now place) }
+    {
+        let high = self.shape.high();
+        let across = self.row_at(place, high)?;
+        let down = self.row_at(place + 8 * high, self.shape.low())?;
+        Ok(Share { across, down })
     }
-    let share = share_at(bytes, 7, shape)?;
-    Some(Message::Reveal {
-        night,
-        dealer,
-        keeper: bytes[6],
-        share,
-    })
-}
 
-fn read_fine(bytes: &[u8], night: u32, dealer: u8, keepers: u8) -> Option<Message>
-    ensures { Reads result (read_fine keepers bytes.now night dealer) }
-{
-    if bytes.len() != 8 || bytes[6] >= keepers || bytes[7] > 1 {
-        return None;
+    // A pair, if its numbers are below P.
+    fn pair_at(&self, place: usize) -> Result<Pair, Malformed>
+        requires { place + 16 ≤ length self.now.bytes.now }
+        ensures { Gives said result (small_pair (pair_from self.now.bytes.now place)) (pair_from self.now.bytes.now place) }
+    {
+        let across = self.number_at(place);
+        let down = self.number_at(place + 8);
+        if across >= P || down >= P {
+            return Err(Malformed);
+        }
+        Ok(Pair { across, down })
     }
-    Some(Message::Fine {
-        night,
-        dealer,
-        keeper: bytes[6],
-        fine: bytes[7] == 1,
-    })
-}
 
-fn read_finished(bytes: &[u8], night: u32, dealer: u8, keepers: u8) -> Option<Message>
-    ensures { Reads result (read_finished keepers bytes.now night dealer) }
-{
-    if bytes.len() != 7 || dealer != 0 || bytes[6] >= keepers {
-        return None;
+    // How long a share is.
+    fn share_len(&self) -> usize
+        ensures { (result ≡ 8 * (self.now.shape.high + self.now.shape.low)) × (result ≤ 96) }
+    {
+        8 * (self.shape.high() + self.shape.low())
     }
-    Some(Message::Finished {
-        night,
-        dealer,
-        keeper: bytes[6],
-    })
-}
 
-fn read_value(bytes: &[u8], night: u32, dealer: u8, keepers: u8) -> Option<Message>
-    ensures { Reads result (read_value keepers bytes.now night dealer) }
-{
-    if bytes.len() != 15 || dealer != 0 || bytes[6] >= keepers {
-        return None;
+    // Each kind of body.
+    fn share(&self) -> Result<Body, Malformed>
+        ensures { Reads self.now.head result (read_share self.now.shape.high self.now.shape.low self.now.bytes.now self.now.head.night self.now.head.dealer) }
+    {
+        self.check_len(6 + self.share_len())?;
+        let share = self.share_at(6)?;
+        Ok(Body::Share(share))
     }
-    let value = Element::new(eight(bytes, 7))?;
-    Some(Message::Value {
-        night,
-        dealer,
-        keeper: bytes[6],
-        value,
-    })
-}
 
-// By the first byte.
-fn by_kind(bytes: &[u8], keepers: u8, shape: Shape) -> Option<Message>
-    requires { 6 ≤ length bytes.now }
-    ensures { Reads result (by_kind keepers shape.high shape.low bytes.now (slice_index bytes.now 0) (number4 bytes.now 1) (slice_index bytes.now 5)) }
-{
-    let night = four(bytes, 1);
-    let dealer = bytes[5];
-    match bytes[0] {
-        1 => read_share(bytes, night, dealer, shape),
-        2 => read_told(bytes, night, dealer),
-        3 => read_complaint(bytes, night, dealer, keepers),
-        4 => read_reveal(bytes, night, dealer, keepers, shape),
-        5 => read_fine(bytes, night, dealer, keepers),
-        6 => read_finished(bytes, night, dealer, keepers),
-        7 => read_value(bytes, night, dealer, keepers),
-        _ => None,
+    fn told(&self) -> Result<Body, Malformed>
+        ensures { Reads self.now.head result (read_told self.now.bytes.now self.now.head.night self.now.head.dealer) }
+    {
+        self.check_len(22)?;
+        let pair = self.pair_at(6)?;
+        Ok(Body::Told(pair))
+    }
+
+    fn complaint(&self) -> Result<Body, Malformed>
+        ensures { Reads self.now.head result (read_complaint self.now.keepers self.now.bytes.now self.now.head.night self.now.head.dealer) }
+    {
+        self.check_len(24)?;
+        let by = self.keeper_at(6)?;
+        let about = self.keeper_at(7)?;
+        let pair = self.pair_at(8)?;
+        Ok(Body::Complaint { by, about, pair })
+    }
+
+    fn reveal(&self) -> Result<Body, Malformed>
+        ensures { Reads self.now.head result (read_reveal self.now.keepers self.now.shape.high self.now.shape.low self.now.bytes.now self.now.head.night self.now.head.dealer) }
+    {
+        self.check_len(7 + self.share_len())?;
+        let keeper = self.keeper_at(6)?;
+        let share = self.share_at(7)?;
+        Ok(Body::Reveal { keeper, share })
+    }
+
+    fn fine(&self) -> Result<Body, Malformed>
+        ensures { Reads self.now.head result (read_fine self.now.keepers self.now.bytes.now self.now.head.night self.now.head.dealer) }
+    {
+        self.check_len(8)?;
+        let keeper = self.keeper_at(6)?;
+        let fine = match self.bytes[7] {
+            0 => false,
+            1 => true,
+            _ => return Err(Malformed),
+        };
+        Ok(Body::Fine { keeper, fine })
+    }
+
+    fn finished(&self) -> Result<Body, Malformed>
+        ensures { Reads self.now.head result (read_finished self.now.keepers self.now.bytes.now self.now.head.night self.now.head.dealer) }
+    {
+        self.check_len(7)?;
+        let keeper = self.keeper_at(6)?;
+        if self.head.dealer != 0 {
+            return Err(Malformed);
+        }
+        Ok(Body::Finished { keeper })
+    }
+
+    fn value(&self) -> Result<Body, Malformed>
+        ensures { Reads self.now.head result (read_value self.now.keepers self.now.bytes.now self.now.head.night self.now.head.dealer) }
+    {
+        self.check_len(15)?;
+        let keeper = self.keeper_at(6)?;
+        let value = self.element_at(7)?;
+        if self.head.dealer != 0 {
+            return Err(Malformed);
+        }
+        Ok(Body::Value { keeper, value })
+    }
+
+    // By the first byte.
+    fn body(&self) -> Result<Body, Malformed>
+        requires { 0 < length self.now.bytes.now }
+        ensures { Reads self.now.head result (by_kind self.now.keepers self.now.shape.high self.now.shape.low self.now.bytes.now (slice_index self.now.bytes.now 0) self.now.head.night self.now.head.dealer) }
+    {
+        match Kind::try_from(self.bytes[0])? {
+            Kind::Share => self.share(),
+            Kind::Told => self.told(),
+            Kind::Complaint => self.complaint(),
+            Kind::Reveal => self.reveal(),
+            Kind::Fine => self.fine(),
+            Kind::Finished => self.finished(),
+            Kind::Value => self.value(),
+        }
     }
 }
 
@@ -203,5 +208,16 @@ pub fn read(bytes: &[u8], keepers: u8, shape: Shape) -> Result<Message, Malforme
     if bytes.len() < 6 || bytes[5] >= keepers {
         return Err(Malformed);
     }
-    by_kind(bytes, keepers, shape).ok_or(Malformed)
+    let head = Head {
+        night: u32::from_be_bytes(array_at(bytes, 1)),
+        dealer: bytes[5],
+    };
+    let frame = Frame {
+        bytes,
+        keepers,
+        shape,
+        head,
+    };
+    let body = frame.body()?;
+    Ok(Message { head, body })
 }

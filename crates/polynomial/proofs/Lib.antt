@@ -1,3 +1,4 @@
+mod Calls
 mod Horner
 mod Places
 mod Sums

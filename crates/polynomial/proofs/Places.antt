@@ -1,7 +1,6 @@
 -- What stands at each place of a list of elements, as a number.
-use Rattle.std.proofs.Common.{◌≡◌, ℕ, zero, suc, ◌+◌, ◌<◌, ◌≤◌, ◌≢◌, List, [], ◌∷◌, map, length, get_or, take, set, replicate, sym, refl, ap, ◌∙◌, arith, get_or-set_other, get_or-set_same}
-use native.Mathlib.Decide.{ℕ_discrete}
-use Rattle.std.proofs.lemmas.List.{map-set, get_or-map, get_or_past, length-map, length-take, get_or-take, ext_get_or, take-map}
+use Rattle.std.proofs.Common.{◌≡◌, ℕ, zero, suc, ◌<◌, ◌≤◌, List, [], ◌∷◌, map, length, get_or, take, sym, refl, ap, ◌∙◌, arith}
+use Rattle.std.proofs.lemmas.List.{get_or-map, get_or_past, length-map, length-take, get_or-take, ext_get_or, take-map}
 use Rattle.algebra.specs.Prime.{p}
 use Rattle.field.specs.declared.element.Element.{Element}
 use Rattle.polynomial.specs.Numbers.{numbers, Clean}
@@ -22,24 +21,9 @@ number_small [] k = omega arith
 number_small (c ∷ cs) zero = c.reduced
 number_small (c ∷ cs) (suc k) = number_small cs k
 
--- a loop that makes the view at each place k be g k
-pub view_more : {X Y : Type 0} (view : X → Y) (d : Y) (g : ℕ → Y) (xs : List X) (i : ℕ) (e : X) → i < length xs → ((k : ℕ) → k < i → get_or (map view xs) k d ≡ g k) → view e ≡ g i →
-    (k : ℕ) → k < i + 1 → get_or (map view (set xs i e)) k d ≡ g k
-view_more view d g xs i e h below is k lt = rw (map-set view xs i e) (go (ℕ_discrete k i))
-  where
-    go : Dec (k ≡ i) → get_or (set (map view xs) i (view e)) k d ≡ g k
-    go (yes q) = ap (λ j. get_or (set (map view xs) i (view e)) j d) q ∙ get_or-set_same (map view xs) i (view e) d (omega (arith, length-map xs view)) ∙ is ∙ ap g (sym q)
-    go (no ne) = get_or-set_other (map view xs) i k (view e) d ne ∙ below k (omega arith)
-
-pub write_more : (g : ℕ → ℕ) (cs : List Element) (i : ℕ) (e : Element) → i < length cs → ((k : ℕ) → k < i → get_or (numbers cs) k 0 ≡ g k) → e.value ≡ g i →
-    (k : ℕ) → k < i + 1 → get_or (numbers (set cs i e)) k 0 ≡ g k
-write_more g cs i e h below is = view_more (λ (c : Element). c.value) 0 g cs i e h below is
-
--- a write below n leaves the zeros
-pub clean_set : (n i : ℕ) (cs : List Element) (e : Element) → i < n → Clean n cs → Clean n (set cs i e)
-clean_set n i cs e lt h k le =
-    let ne : k ≢ i = omega arith in
-    rw (map-set (λ (c : Element). c.value) cs i e) (get_or-set_other (numbers cs) i k e.value 0 ne ∙ h k le)
+-- the front of what a `map` gives
+pub map_front : {A : Type 0} (n : ℕ) (h : A → ℕ) (xs : List A) (cs : List Element) → numbers cs ≡ map h xs → numbers (take n cs) ≡ map h (take n xs)
+map_front n h xs cs e = sym (take-map (λ (c : Element). c.value) n cs) ∙ ap (take n) e ∙ take-map h n xs
 
 -- with zeros behind it, the front of a list has the same numbers everywhere
 pub front_same : (n : ℕ) (cs : List Element) → Clean n cs → (k : ℕ) → get_or (numbers (take n cs)) k 0 ≡ get_or (numbers cs) k 0
@@ -57,9 +41,3 @@ front_is n cs l h len same =
     ext_get_or 0 (numbers (take n cs)) l (omega (arith, length_front n cs h))
     (λ k lt. let less : k < n = omega (arith, length_front n cs h) in
     ap (λ ns. get_or ns k 0) (sym (take-map (λ (e : Element). e.value) n cs)) ∙ get_or-take n (numbers cs) k 0 less ∙ same k less)
-
--- so many zeros
-pub zeros_are : (z : Element) → z.value ≡ 0 → (m n : ℕ) → n ≤ m → numbers (take n (replicate m z)) ≡ replicate n 0
-zeros_are z e m zero h = refl
-zeros_are z e zero (suc n) h = absurd (omega arith)
-zeros_are z e (suc m) (suc n) h = let rest = zeros_are z e m n (omega arith) in cc

@@ -1,66 +1,53 @@
 -- What is left of a polynomial in two unknowns with one set, row by row.
-use Rattle.std.proofs.Common.{◌≡◌, ℕ, zero, suc, ◌+◌, ◌-◌, ◌*◌, ◌<◌, ◌≤◌, List, [], ◌∷◌, map, length, get_or, take, drop, set, sym, refl, ap, ◌∙◌, suc-mul, zero-mul, arith, length-set, length-take, drop-cons}
+use Rattle.std.proofs.Common.{◌≡◌, ℕ, zero, suc, ◌+◌, ◌*◌, ◌<◌, ◌≤◌, List, [], ◌∷◌, map, length, get_or, take, drop, set, sym, refl, ap, ◌∙◌, ◌≢◌, suc-mul, zero-mul, arith, length-set, length-take, length-drop, get_or-set_other}
 use mathlib.Core.List.{Memᴰ}
-use Rattle.std.proofs.lemmas.List.{get_or-map, length-map, take-map, drop-map, get_or-take, drop-drop, drop_all, ext_get_or}
+use Rattle.std.proofs.lemmas.Nat.{mul-le}
+use Rattle.std.proofs.lemmas.List.Edits.{fill_by_more}
+use Rattle.std.proofs.lemmas.List.{map-set, length-map, take-map, drop-map, get_or-take, drop-drop, ext_get_or}
 use Rattle.algebra.specs.Polynomial.{value, plus, times, set_first, set_second, Exact, Exact2}
 use Rattle.algebra.specs.Prime.{p}
 use Rattle.field.specs.declared.element.Element.{Element}
 use Rattle.polynomial.specs.declared.types.Polynomial.{Polynomial}
 use Rattle.polynomial.specs.Numbers.{numbers, Clean, cut}
 use Rattle.polynomial.specs.Lists.{coeffs}
-use Rattle.polynomial.proofs.Places.{write_more, clean_set, front_is, view_more, length_front}
-use Rattle.polynomial.proofs.Sums.{at}
+use Rattle.polynomial.proofs.Places.{map_front, length_front}
 
 -- the rows that count
 abbrev front : ℕ → List Polynomial → List (List ℕ)
 front n rows = map coeffs (take n rows)
 
+abbrev pub lens : List Polynomial → List ℕ
+lens rows = map (λ (f : Polynomial). f.len) rows
+
 length-rows : (n : ℕ) (rows : List Polynomial) → n ≤ length rows → length (front n rows) ≡ n
 length-rows n rows h = omega (arith, length-map (take n rows) coeffs, length-take n rows)
 
-row_at : (n i : ℕ) (d : Polynomial) (rows : List Polynomial) → i < n → n ≤ length rows → get_or (front n rows) i [] ≡ coeffs (get_or rows i d)
-row_at n i d rows lt h = get_or-map coeffs (take n rows) i d [] (omega (arith, length-take n rows)) ∙ ap coeffs (get_or-take n rows i d lt)
-
-length-second : (rs : List (List ℕ)) (y : ℕ) → length (set_second p rs y) ≡ length rs
+-- with y set, row by row
+second_map : (y : ℕ) (rows : List Polynomial) → set_second p (map coeffs rows) y ≡ map (λ r. value p (coeffs r) y) rows
 unfolding set_second
-length-second [] y = refl
-length-second (r ∷ rs) y = ap suc (length-second rs y)
+second_map y [] = refl
+second_map y (r ∷ rows) = ap (λ l. value p (coeffs r) y ∷ l) (second_map y rows)
 
-second_at : (rs : List (List ℕ)) (y k : ℕ) → k < length rs → get_or (set_second p rs y) k 0 ≡ value p (get_or rs k []) y
-unfolding set_second
-second_at [] y k h = absurd (omega arith)
-second_at (r ∷ rs) y zero h = refl
-second_at (r ∷ rs) y (suc k) h = second_at rs y k (omega arith)
+pub across_whole : (n y : ℕ) (rows : List Polynomial) (cs : List Element) → numbers cs ≡ map (λ r. value p (coeffs r) y) rows → numbers (take n cs) ≡ set_second p (front n rows) y
+across_whole n y rows cs e = map_front n (λ r. value p (coeffs r) y) rows cs e ∙ sym (second_map y (take n rows))
 
--- one more coefficient of what is left in x
-pub across_more : (i n : ℕ) (y e : Element) (d : Polynomial) (rows : List Polynomial) (cs : List Element) → length cs ≡ 6 → n ≤ 6 → i < n → n ≤ length rows →
-    e.value ≡ value p (coeffs (get_or rows i d)) y.value → Clean i cs → ((k : ℕ) → k < i → at cs k ≡ get_or (set_second p (front n rows) y.value) k 0) →
-    (length (set cs i e) ≡ 6) × Clean (i + 1) (set cs i e) × ((k : ℕ) → k < i + 1 → at (set cs i e) k ≡ get_or (set_second p (front n rows) y.value) k 0)
-across_more i n y e d rows cs six short lt room v clean below = (
-  length-set cs i e ∙ six,
-  clean_set (i + 1) i cs e (omega arith) (λ k le. clean k (omega arith)),
-  write_more (λ k. get_or (set_second p (front n rows) y.value) k 0) cs i e (omega arith) below
-      (v ∙ ap (λ r. value p r y.value) (sym (row_at n i d rows lt room)) ∙ sym (second_at (front n rows) y.value i (omega (arith, length-rows n rows room)))),
-)
+pub across_clean : (n y : ℕ) (rows : List Polynomial) (cs : List Element) → ((k : ℕ) → n ≤ k → get_or (lens rows) k 0 ≡ 0) → numbers cs ≡ map (λ r. value p (coeffs r) y) rows → Clean n cs
+unfolding value
+across_clean n y rows cs empty e k le = ap (λ l. get_or l k 0) e ∙ past rows k (empty k le)
+  where
+    past : (rows : List Polynomial) (k : ℕ) → get_or (lens rows) k 0 ≡ 0 → get_or (map (λ r. value p (coeffs r) y) rows) k 0 ≡ 0
+    past [] k h = refl
+    past (r ∷ rows) zero h = ap (λ n. value p (numbers (take n r.coefficients)) y) h
+    past (r ∷ rows) (suc k) h = past rows k h
 
-pub across_whole : (i n : ℕ) (y : Element) (rows : List Polynomial) (cs : List Element) → length cs ≡ 6 → n ≤ 6 → i ≤ n → n ≤ i → n ≤ length rows →
-    ((k : ℕ) → k < i → at cs k ≡ get_or (set_second p (front n rows) y.value) k 0) → numbers (take n cs) ≡ set_second p (front n rows) y.value
-across_whole i n y rows cs six short le ge room below =
-    front_is n cs _ (omega arith) (length-second (front n rows) y.value ∙ length-rows n rows room) (λ k lt. below k (omega arith))
-
--- a turn of the loop at i - 1, for what is left in y
-pub down_start : (n x : ℕ) (f : Polynomial) (rows : List Polynomial) → n ≤ length rows → coeffs f ≡ [] → coeffs f ≡ set_first p (drop n (front n rows)) x
+-- with x set, from the last row to the first: r is one row more, and h the new sum
+pub down_turn : (x : ℕ) (r g m h : Polynomial) (rows : List Polynomial) → coeffs g ≡ set_first p (map coeffs rows) x → coeffs m ≡ times p x (coeffs g) → coeffs h ≡ plus p (coeffs r) (coeffs m) → coeffs h ≡ set_first p (map coeffs (r ∷ rows)) x
 unfolding set_first
-down_start n x f rows room e = e ∙ sym (ap (λ rs. set_first p rs x) (drop_all n (front n rows) (omega (arith, length-rows n rows room))))
+down_turn x r g m h rows is t s = cc
 
-pub down_turn : (i n x : ℕ) (f g h m : Polynomial) (rows : List Polynomial) → 0 < i → i ≤ n → n ≤ length rows → f ≡ get_or rows (i - 1) f → coeffs g ≡ set_first p (drop i (front n rows)) x →
-    coeffs m ≡ times p x (coeffs g) → coeffs h ≡ plus p (coeffs f) (coeffs m) → coeffs h ≡ set_first p (drop (i - 1) (front n rows)) x
+pub down_start : (x : ℕ) (g : Polynomial) → coeffs g ≡ [] → coeffs g ≡ set_first p [] x
 unfolding set_first
-down_turn i n x f g h m rows pos le room is e t s =
-    let lt : i - 1 < length (front n rows) = omega (arith, length-rows n rows room) in
-    let next : suc (i - 1) ≡ i = omega arith in
-    let r : get_or (front n rows) (i - 1) [] ≡ coeffs f = row_at n (i - 1) f rows (omega arith) room ∙ ap coeffs (sym is) in
-    cc (ap (λ rs. set_first p rs x) (drop-cons (front n rows) (i - 1) [] lt))
+down_start x g e = e
 
 -- a list cut into rows
 pub cut_at : {A : Type 0} (k n i : ℕ) (xs : List A) → i < k → get_or (cut k n xs) i [] ≡ take n (drop (i * n) xs)
@@ -74,24 +61,35 @@ unfolding cut
 length_cut zero n xs = refl
 length_cut (suc k) n xs = ap suc (length_cut k n (drop n xs))
 
-abbrev pub lens : List Polynomial → List ℕ
-lens rows = map (λ (f : Polynomial). f.len) rows
-
--- the rows below i are those of the list, and as long as they should be
+-- the rows below i are those of the list, and the others are empty
 pub record Cut (i n : ℕ) (cs : List Element) (rows : List Polynomial) : Type 0 where
   pub six : length rows ≡ 6
-  pub even : (k : ℕ) → k < i → get_or (lens rows) k 0 ≡ n
   pub each : (k : ℕ) → k < i → get_or (map coeffs rows) k [] ≡ numbers (take n (drop (k * n) cs))
+  pub rest : (k : ℕ) → i ≤ k → get_or (map coeffs rows) k [] ≡ []
 
-pub cut_more : (i n : ℕ) (f : Polynomial) (cs : List Element) (rows : List Polynomial) → i < 6 → coeffs f ≡ numbers (take n (drop (i * n) cs)) → f.len ≡ n → Cut i n cs rows → Cut (i + 1) n cs (set rows i f)
-cut_more i n f cs rows lt is len c = record {
+pub cut_more : (i n m : ℕ) (f : Polynomial) (cs : List Element) (rows : List Polynomial) → i < 6 → coeffs f ≡ numbers (take m (drop (i * n) cs)) → m ≡ n → Cut i n cs rows → Cut (i + 1) n cs (set rows i f)
+cut_more i n m f cs rows lt is e c = record {
   six = length-set rows i f ∙ c.six;
-  even = view_more (λ (f : Polynomial). f.len) 0 (λ k. n) rows i f (omega (arith, c.six)) c.even len;
-  each = view_more coeffs [] (λ k. numbers (take n (drop (k * n) cs))) rows i f (omega (arith, c.six)) c.each is;
+  each = λ k h. rw (map-set coeffs rows i f, is, e) (fill_by_more (λ k. numbers (take n (drop (k * n) cs))) (map coeffs rows) i [] (omega (arith, length-map rows coeffs, c.six)) c.each k h);
+  rest = λ k le. let ne : k ≢ i = omega arith in rw (map-set coeffs rows i f) (get_or-set_other (map coeffs rows) i k (coeffs f) [] ne ∙ c.rest k (omega arith));
 }
 
-pub cut_whole : (i k n : ℕ) (cs : List Element) (rows : List Polynomial) → i ≤ k → k ≤ i → k ≤ 6 → Cut i n cs rows → front k rows ≡ cut k n (numbers cs)
-cut_whole i k n cs rows le ge short c =
+-- how long the row at a place is
+len_at : (rows : List Polynomial) (k : ℕ) → get_or (lens rows) k 0 ≡ length (get_or (map coeffs rows) k [])
+len_at [] k = refl
+len_at (f ∷ rows) zero = sym (length_front f.len f.coefficients (omega (arith, f.six, f.short)))
+len_at (f ∷ rows) (suc k) = len_at rows k
+
+pub cut_even : (i h n : ℕ) (cs : List Element) (rows : List Polynomial) → h ≤ i → length cs ≡ h * n → Cut i n cs rows → (k : ℕ) → k < h → get_or (lens rows) k 0 ≡ n
+cut_even i h n cs rows le len c k lt =
+    let room : (k + 1) * n ≤ h * n = mul-le (k + 1) n h n (omega arith) (omega arith) in
+    len_at rows k ∙ ap length (c.each k (omega arith)) ∙ length_front n (drop (k * n) cs) (omega (arith, length-drop (k * n) cs))
+
+pub cut_clean : (i n : ℕ) (cs : List Element) (rows : List Polynomial) → Cut i n cs rows → (k : ℕ) → i ≤ k → get_or (lens rows) k 0 ≡ 0
+cut_clean i n cs rows c k le = len_at rows k ∙ ap length (c.rest k le)
+
+pub cut_whole : (i k n : ℕ) (cs : List Element) (rows : List Polynomial) → k ≤ i → k ≤ 6 → Cut i n cs rows → front k rows ≡ cut k n (numbers cs)
+cut_whole i k n cs rows le short c =
     ext_get_or [] (front k rows) (cut k n (numbers cs)) (length-rows k rows (omega (arith, c.six)) ∙ sym (length_cut k n (numbers cs)))
     (λ j lt. let less : j < k = omega (arith, length-rows k rows (omega (arith, c.six))) in
     ap (λ l. get_or l j []) (sym (take-map coeffs k rows)) ∙ get_or-take k (map coeffs rows) j [] less ∙ c.each j (omega arith) ∙

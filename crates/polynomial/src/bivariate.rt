@@ -50,8 +50,9 @@ impl Bivariate {
             return None;
         }
         let mut rows = [Polynomial::zero(); 6];
+        // By the number of the row, and not by `chunks_exact(low)`: it takes no 0, and `low` may be 0.
         for i in 0..shape.high {
-            rows[i] = Polynomial::row(cs, i * shape.low, shape.low);
+            rows[i] = Polynomial::from_slice(&cs[i * shape.low..(i + 1) * shape.low])?;
         }
         Some(Bivariate { rows, shape })
     }
@@ -67,12 +68,8 @@ impl Bivariate {
     pub fn across(&self, y: Element) -> Polynomial
         ensures { coeffs result ≡ set_second p (rows_of self.now) y.value }
     {
-        let mut coefficients = [Element::zero(); 6];
-        for i in 0..self.shape.high {
-            coefficients[i] = self.rows[i].evaluate(y);
-        }
         Polynomial {
-            coefficients,
+            coefficients: self.rows.map(|row| row.evaluate(y)),
             len: self.shape.high,
         }
     }
@@ -81,11 +78,10 @@ impl Bivariate {
     pub fn down(&self, x: Element) -> Polynomial
         ensures { coeffs result ≡ set_first p (rows_of self.now) x.value }
     {
-        let mut sum = Polynomial::zero();
-        for i in (0..self.shape.high).rev() {
-            sum = self.rows[i].plus(&sum.times(x));
-        }
-        sum
+        self.rows[..self.shape.high]
+            .iter()
+            .rev()
+            .fold(Polynomial::zero(), |sum, row| *row + sum * x)
     }
 
     // What keeper i is dealt.
@@ -103,7 +99,9 @@ impl Bivariate {
     pub fn clear(&mut self)
         ensures { (map (λ r. numbers r.coefficients) self.new.rows ≡ replicate 6 (replicate 6 0)) × ((self.new.shape.high ≡ 0) × (self.new.shape.low ≡ 0)) }
     {
-        self.rows = [Polynomial::zero(); 6];
-        self.shape = Shape { high: 0, low: 0 };
+        *self = Bivariate {
+            rows: [Polynomial::zero(); 6],
+            shape: Shape { high: 0, low: 0 },
+        };
     }
 }

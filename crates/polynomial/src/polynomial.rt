@@ -1,5 +1,5 @@
 // Polynomials in one unknown.
-ghost use Rattle.std.specs.Prelude.{◌≡◌, ℕ, ◌+◌, ◌*◌, ◌%◌, ◌<◌, ◌≤◌, [], length, take, drop, replicate, MatchOption};
+ghost use Rattle.std.specs.Prelude.{◌≡◌, ℕ, ◌+◌, ◌*◌, ◌%◌, ◌<◌, ◌≤◌, [], length, replicate, MatchOption};
 ghost use Rattle.algebra.specs.Polynomial.{plus, times, value};
 ghost use Rattle.algebra.specs.Prime.{p};
 ghost use Rattle.polynomial.specs.Lists.{coeffs};
@@ -7,20 +7,17 @@ ghost use Rattle.polynomial.specs.Numbers.{numbers};
 
 use crate::types::Polynomial;
 use field::Element;
+use std::array;
+use std::ops::{Add, Mul};
 
 // The value at x by Horner's rule.
 fn horner(cs: &[Element], x: Element) -> Element
     ensures { result.value ≡ value p (numbers cs.now) x.value }
 {
-    let n = cs.len();
-    if n == 0 {
+    let Some((top, rest)) = cs.split_last() else {
         return Element::zero();
-    }
-    let mut sum = cs[n - 1];
-    for i in (0..n - 1).rev() {
-        sum = x.times_plus(sum, cs[i]);
-    }
-    sum
+    };
+    rest.iter().rev().fold(*top, |sum, c| x.times_plus(sum, *c))
 }
 
 impl Polynomial {
@@ -28,33 +25,18 @@ impl Polynomial {
     pub fn zero() -> Polynomial
         ensures { (coeffs result ≡ []) × ((numbers result.coefficients ≡ replicate 6 0) × (result.len ≡ 0)) }
     {
-        Polynomial {
-            coefficients: [Element::zero(); 6],
-            len: 0,
-        }
+        Polynomial::zeros(0)
     }
 
     // As many zeros.
     pub(crate) fn zeros(len: usize) -> Polynomial
         requires { len ≤ 6 }
-        ensures { coeffs result ≡ replicate len 0 }
+        ensures { (coeffs result ≡ replicate len 0) × ((numbers result.coefficients ≡ replicate 6 0) × (result.len ≡ len)) }
     {
         Polynomial {
             coefficients: [Element::zero(); 6],
             len,
         }
-    }
-
-    // The coefficients that stand in a list from a place on.
-    pub(crate) fn row(cs: &[Element], from: usize, len: usize) -> Polynomial
-        requires { (len ≤ 6) × (from + len ≤ length cs.now) }
-        ensures { (coeffs result ≡ numbers (take len (drop from cs.now))) × (result.len ≡ len) }
-    {
-        let mut coefficients = [Element::zero(); 6];
-        for i in 0..len {
-            coefficients[i] = cs[from + i];
-        }
-        Polynomial { coefficients, len }
     }
 
     // The polynomial with these coefficients, if they are at most six.
@@ -64,7 +46,12 @@ impl Polynomial {
         if cs.len() > 6 {
             return None;
         }
-        Some(Polynomial::row(cs, 0, cs.len()))
+        let mut coefficients = [Element::zero(); 6];
+        coefficients[..cs.len()].copy_from_slice(cs);
+        Some(Polynomial {
+            coefficients,
+            len: cs.len(),
+        })
     }
 
     // How many coefficients it has.
@@ -94,37 +81,40 @@ impl Polynomial {
         self.evaluate(Element::zero())
     }
 
-    pub fn plus(&self, other: &Polynomial) -> Polynomial
-        ensures { coeffs result ≡ plus p (coeffs self.now) (coeffs other.now) }
-    {
-        let mut coefficients = [Element::zero(); 6];
-        for i in 0..6 {
-            coefficients[i] = self.coefficients[i] + other.coefficients[i];
-        }
-        Polynomial {
-            coefficients,
-            len: self.len.max(other.len),
-        }
-    }
-
-    pub fn times(&self, factor: Element) -> Polynomial
-        ensures { coeffs result ≡ times p factor.value (coeffs self.now) }
-    {
-        let mut coefficients = [Element::zero(); 6];
-        for i in 0..6 {
-            coefficients[i] = factor * self.coefficients[i];
-        }
-        Polynomial {
-            coefficients,
-            len: self.len,
-        }
-    }
-
     // Forgets it: afterwards every one of the six coefficients is 0.
     pub fn clear(&mut self)
         ensures { (numbers self.new.coefficients ≡ replicate 6 0) × (self.new.len ≡ 0) }
     {
-        self.coefficients = [Element::zero(); 6];
-        self.len = 0;
+        *self = Polynomial::zero();
+    }
+}
+
+impl Add for Polynomial {
+    type Output = Polynomial;
+
+    ghost add_gives = { λ f g r. coeffs r ≡ plus p (coeffs f) (coeffs g) };
+
+    fn add(self, other: Polynomial) -> Polynomial {
+        let (cs, ds) = (self.coefficients, other.coefficients);
+        let sum = |i|
+            requires { i < 6 }
+        { cs[i] + ds[i] };
+        Polynomial {
+            coefficients: array::from_fn(sum),
+            len: self.len.max(other.len),
+        }
+    }
+}
+
+impl Mul<Element> for Polynomial {
+    type Output = Polynomial;
+
+    ghost mul_gives = { λ f factor r. coeffs r ≡ times p factor.value (coeffs f) };
+
+    fn mul(self, factor: Element) -> Polynomial {
+        Polynomial {
+            coefficients: self.coefficients.map(|c| factor * c),
+            len: self.len,
+        }
     }
 }

@@ -19,12 +19,6 @@ impl Pair {
             down: self.across,
         }
     }
-
-    pub fn same(self, other: Pair) -> bool
-        ensures { Decides result (said self ≡ said other) }
-    {
-        self.across == other.across && self.down == other.down
-    }
 }
 
 impl Share {
@@ -51,8 +45,8 @@ impl Share {
     {
         let at = Element::point(j);
         Pair {
-            across: self.across.evaluate(at).value(),
-            down: self.down.evaluate(at).value(),
+            across: u64::from(self.across.evaluate(at)),
+            down: u64::from(self.down.evaluate(at)),
         }
     }
 
@@ -60,7 +54,7 @@ impl Share {
     pub fn agrees(&self, i: u8, other: &Share, j: u8) -> bool
         ensures { Decides result (Agree p i (held self.now) j (held other.now)) }
     {
-        self.pair_at(j).same(other.pair_at(i).swap())
+        self.pair_at(j) == other.pair_at(i).swap()
     }
 
     // Does keeper i's share agree with itself: is its across at its own point its down there?

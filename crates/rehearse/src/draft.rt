@@ -1,194 +1,197 @@
 // Messages as a script writes them: numbers may be out of range, and rows of any length up to twelve.
-ghost use Rattle.std.specs.Prelude.{◌≤◌};
-
 use crate::expected::Expected;
 use crate::failure::Failure;
+use crate::words;
+use crate::words::Words;
+use message::Kind;
 use std::alloc::{AllocError, Global};
-
-// At most twelve numbers.
-#[derive(Clone, Copy)]
-pub struct Row {
-    numbers: [u64; 12],
-    len: usize,
-    ghost short: { len ≤ 12 },
-}
-
-// What follows the night and the dealer.
-#[derive(Clone, Copy)]
-pub enum Said {
-    Share {
-        across: Row,
-        down: Row,
-    },
-    Told {
-        across: u64,
-        down: u64,
-    },
-    Complaint {
-        by: u8,
-        about: u8,
-        across: u64,
-        down: u64,
-    },
-    Reveal {
-        keeper: u8,
-        across: Row,
-        down: Row,
-    },
-    Fine {
-        keeper: u8,
-        fine: bool,
-    },
-    Finished {
-        keeper: u8,
-    },
-    Value {
-        keeper: u8,
-        value: u64,
-    },
-}
 
 #[derive(Drop)]
 pub enum Draft {
     // If no dealer is given, it is that of the dealing.
     Message {
+        kind: Kind,
         night: u32,
         dealer: Option<u8>,
-        said: Said,
+        body: Vec<u8>,
     },
     Bytes(Vec<u8>),
 }
 
-impl Row {
-    pub fn new() -> Row {
-        Row {
-            numbers: [0; 12],
-            len: 0,
+impl Draft {
+    // `[night N] [dealer D] KIND ..`, or `hex DIGITS`
+    pub fn read(heap: Global, mut words: Words<'_>) -> Result<Draft, Failure> {
+        if words.pass("hex") {
+            return Ok(Draft::Bytes(hex(heap, words)?));
         }
-    }
-
-    // With one number more.
-    pub fn with(self, number: u64) -> Result<Row, Expected> {
-        if self.len == 12 {
-            return Err(Expected::FewNumbers);
-        }
-        let mut numbers = self.numbers;
-        numbers[self.len] = number;
-        Ok(Row {
-            numbers,
-            len: self.len + 1,
+        let night = if words.pass("night") {
+            words.number()?
+        } else {
+            0
+        };
+        let dealer = if words.pass("dealer") {
+            Some(words.number()?)
+        } else {
+            None
+        };
+        let kind = words.next().and_then(kind_of).ok_or(Expected::Message)?;
+        let body = Body::read(heap, kind, words)?;
+        Ok(Draft::Message {
+            kind,
+            night,
+            dealer,
+            body,
         })
     }
 
-    fn put(&self, out: &mut Vec<u8>) -> Result<(), AllocError> {
-        for number in &self.numbers[0..self.len] {
-            put(out, *number)?;
-        }
-        Ok(())
-    }
-}
-
-// A number as eight bytes.
-fn put(out: &mut Vec<u8>, number: u64) -> Result<(), AllocError> {
-    out.extend_from_slice(&number.to_be_bytes())
-}
-
-impl Said {
-    // The first byte.
-    fn kind(&self) -> u8 {
-        match self {
-            Said::Share { .. } => 1,
-            Said::Told { .. } => 2,
-            Said::Complaint { .. } => 3,
-            Said::Reveal { .. } => 4,
-            Said::Fine { .. } => 5,
-            Said::Finished { .. } => 6,
-            Said::Value { .. } => 7,
-        }
-    }
-
-    // What follows the night and the dealer.
-    fn put(&self, out: &mut Vec<u8>) -> Result<(), AllocError> {
-        match *self {
-            Said::Share { across, down } => {
-                across.put(out)?;
-                down.put(out)
-            }
-            Said::Told { across, down } => {
-                put(out, across)?;
-                put(out, down)
-            }
-            Said::Complaint {
-                by,
-                about,
-                across,
-                down,
-            } => {
-                out.extend_from_slice(&[by, about])?;
-                put(out, across)?;
-                put(out, down)
-            }
-            Said::Reveal {
-                keeper,
-                across,
-                down,
-            } => {
-                out.extend_from_slice(&[keeper])?;
-                across.put(out)?;
-                down.put(out)
-            }
-            Said::Fine { keeper, fine } => out.extend_from_slice(&[keeper, u8::from(fine)]),
-            Said::Finished { keeper } => out.extend_from_slice(&[keeper]),
-            Said::Value { keeper, value } => {
-                out.extend_from_slice(&[keeper])?;
-                put(out, value)
-            }
-        }
-    }
-}
-
-// The number of a hexadecimal digit.
-fn nibble(digit: u8) -> Option<u8> {
-    match digit {
-        b'0'..=b'9' => Some(digit - b'0'),
-        b'a'..=b'f' => Some(digit - b'a' + 10),
-        b'A'..=b'F' => Some(digit - b'A' + 10),
-        _ => None,
-    }
-}
-
-// The bytes that digits write, by two each.
-pub fn unhex(heap: Global, digits: &str) -> Result<Vec<u8>, Failure> {
-    let mut out = Vec::new(heap);
-    for pair in digits.as_bytes().chunks(2) {
-        let [high, low] = pair else {
-            return Err(Failure::Unusable(Expected::Hex));
-        };
-        let (Some(high), Some(low)) = (nibble(*high), nibble(*low)) else {
-            return Err(Failure::Unusable(Expected::Hex));
-        };
-        out.push(high << 4 | low)?;
-    }
-    Ok(out)
-}
-
-impl Draft {
     // The bytes to hand over, in a dealing of this dealer.
     pub fn bytes(self, heap: Global, dealt_by: u8) -> Result<Vec<u8>, AllocError> {
         match self {
             Draft::Bytes(bytes) => Ok(bytes),
             Draft::Message {
+                kind,
                 night,
                 dealer,
-                said,
+                body,
             } => {
                 let mut out = Vec::new(heap);
-                out.push(said.kind())?;
+                out.push(u8::from(kind))?;
                 out.extend_from_slice(&night.to_be_bytes())?;
                 out.push(dealer.unwrap_or(dealt_by))?;
-                said.put(&mut out)?;
+                out.extend_from_slice(body.as_slice())?;
                 Ok(out)
             }
         }
     }
+}
+
+// The kind of message that a word names.
+fn kind_of(word: &str) -> Option<Kind> {
+    match word {
+        "share" => Some(Kind::Share),
+        "told" => Some(Kind::Told),
+        "complaint" => Some(Kind::Complaint),
+        "reveal" => Some(Kind::Reveal),
+        "fine" => Some(Kind::Fine),
+        "finished" => Some(Kind::Finished),
+        "value" => Some(Kind::Value),
+        _ => None,
+    }
+}
+
+// What follows the night and the dealer: the words that are left to read, and the bytes that the others write.
+#[derive(Drop)]
+struct Body<'a> {
+    words: Words<'a>,
+    bytes: Vec<u8>,
+}
+
+impl<'a> Body<'a> {
+    // The bytes that all words write, of this kind of message.
+    fn read(heap: Global, kind: Kind, words: Words<'a>) -> Result<Vec<u8>, Failure> {
+        let mut body = Body {
+            words,
+            bytes: Vec::new(heap),
+        };
+        body.write(kind)?;
+        body.words.end()?;
+        Ok(body.bytes)
+    }
+
+    fn write(&mut self, kind: Kind) -> Result<(), Failure> {
+        match kind {
+            Kind::Share => self.sides(),
+            Kind::Told => self.pair(),
+            Kind::Complaint => {
+                self.byte()?;
+                self.byte()?;
+                self.pair()
+            }
+            Kind::Reveal => {
+                self.byte()?;
+                self.sides()
+            }
+            Kind::Fine => {
+                self.byte()?;
+                self.answer()
+            }
+            Kind::Finished => self.byte(),
+            Kind::Value => {
+                self.byte()?;
+                self.number()
+            }
+        }
+    }
+
+    // A number below 256.
+    fn byte(&mut self) -> Result<(), Failure> {
+        Ok(self.bytes.push(self.words.number()?)?)
+    }
+
+    // A number as eight bytes.
+    fn number(&mut self) -> Result<(), Failure> {
+        let number = self.words.number()?;
+        Ok(self.put(number)?)
+    }
+
+    fn put(&mut self, number: u64) -> Result<(), AllocError> {
+        self.bytes.extend_from_slice(&number.to_be_bytes())
+    }
+
+    // `A D`
+    fn pair(&mut self) -> Result<(), Failure> {
+        self.number()?;
+        self.number()
+    }
+
+    // `A .. / D ..`
+    fn sides(&mut self) -> Result<(), Failure> {
+        if !self.side()? || self.side()? {
+            return Err(Expected::Slash.into());
+        }
+        Ok(())
+    }
+
+    // At most twelve numbers; whether a slash follows.
+    fn side(&mut self) -> Result<bool, Failure> {
+        for _ in 0..=12 {
+            match self.words.next() {
+                Some("/") => return Ok(true),
+                Some(word) => self.put(words::number(word)?)?,
+                None => return Ok(false),
+            }
+        }
+        Err(Expected::FewNumbers.into())
+    }
+
+    // `yes` or `no`
+    fn answer(&mut self) -> Result<(), Failure> {
+        let answer = match self.words.next() {
+            Some("yes") => true,
+            Some("no") => false,
+            _ => return Err(Expected::YesOrNo.into()),
+        };
+        Ok(self.bytes.push(answer.into())?)
+    }
+}
+
+// `hex DIGITS`
+fn hex(heap: Global, mut words: Words<'_>) -> Result<Vec<u8>, Failure> {
+    let digits = words.next().ok_or(Expected::Hex)?;
+    let mut out = Vec::new(heap);
+    for pair in digits.as_bytes().chunks(2) {
+        out.push(byte(pair).ok_or(Expected::Hex)?)?;
+    }
+    words.end()?;
+    Ok(out)
+}
+
+// The byte that two digits write.
+fn byte(pair: &[u8]) -> Option<u8> {
+    let [high, low] = pair else {
+        return None;
+    };
+    let high = char::from(*high).to_digit(16)?;
+    let low = char::from(*low).to_digit(16)?;
+    u8::try_from(high << 4 | low).ok()
 }

@@ -8,17 +8,16 @@ mod draft;
 mod expected;
 mod failure;
 mod play;
+mod rows;
 mod scene;
 mod script;
 mod show;
 mod stage;
-mod table;
 mod words;
 
 use anyhow::anyhow;
 use expected::Expected;
 use failure::Failure;
-use show::Refused;
 use stage::{Reply, Stage};
 use std::alloc::Global;
 use std::io::{BufRead, BufReader};
@@ -28,9 +27,7 @@ use std::process::ExitCode;
 fn answer(stage: &mut Stage, heap: Global, line: &[u8]) -> Result<Reply, Failure>
     ensures same { OnErr result (stage.new ≡ stage.old) }
 {
-    let Ok(text) = std::str::from_utf8(line) else {
-        return Err(Failure::Unusable(Expected::Utf8));
-    };
+    let text = std::str::from_utf8(line).map_err(|_| Expected::Utf8)?;
     match script::parse(heap, text.strip_suffix('\n').unwrap_or(text))? {
         Some(command) => stage.carry_out(heap, command),
         None => Ok(Reply::Nothing),
@@ -49,9 +46,11 @@ fn play_all(rt: &HostRuntime) -> anyhow::Result<()> {
         }
         match answer(&mut stage, rt.alloc(), line.as_slice()) {
             Ok(Reply::Nothing) => {}
-            Ok(Reply::Answered(answers)) => {
-                let refused = Refused(answers);
-                print!(rt; "{refused}")?;
+            Ok(Reply::Refused(refusals)) => {
+                for refusal in refusals.iter() {
+                    let number = u8::from(*refusal);
+                    println!(rt; "refused {number}")?;
+                }
             }
             Ok(Reply::Show) => print!(rt; "{stage}")?,
             Err(Failure::Unusable(expected)) => println!(rt; "line {n}: expected {expected}")?,

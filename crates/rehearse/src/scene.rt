@@ -1,112 +1,91 @@
 // What stands on the stage: the keepers, who of them lies, and a dealing.
-ghost use Rattle.std.specs.Prelude.{◌≡◌, ◌+◌, ◌*◌, ◌≤◌, length};
+ghost use Rattle.std.specs.Prelude.{◌≡◌, ◌+◌, ◌*◌, ◌≤◌};
 
 use crate::company::Company;
 use crate::draft::Draft;
 use crate::expected::Expected;
 use crate::failure::Failure;
 use crate::play::Play;
-use crate::script::Named;
-use crate::table::Rows;
-use dealing::Answer;
+use crate::rows::Rows;
+use dealing::Refusal;
 use std::alloc::Global;
 
-#[derive(Clone, Copy)]
+#[derive(Clone, Drop)]
 pub struct Scene {
     pub company: Company,
-    pub liars: [bool; 7],
+    pub liars: Vec<u8>,
     pub play: Option<Play>,
 }
 
 impl Scene {
     // All keep the rules, and nothing is dealt.
-    pub fn new(company: Company) -> Scene {
+    pub fn new(heap: Global, company: Company) -> Scene {
         Scene {
             company,
-            liars: [false; 7],
+            liars: Vec::new(heap),
             play: None,
         }
     }
 
-    // The dealing.
-    fn dealing(&self) -> Result<Play, Expected> {
-        match self.play {
-            Some(play) => Ok(play),
-            None => Err(Expected::Dealing),
-        }
-    }
-
     // The keepers named lie from now on.
-    pub fn liar(&mut self, named: Named) -> Result<(), Expected> {
-        self.company.keeper(named.largest)?;
+    pub fn liar(&mut self, named: &[u8]) -> Result<(), Failure> {
+        for keeper in named {
+            self.company.keeper(*keeper)?;
+        }
         if self.play.is_some() {
-            return Err(Expected::NoDealing);
+            return Err(Expected::NoDealing.into());
         }
-        for i in 0..7 {
-            if named.each[i] {
-                self.liars[i] = true;
-            }
-        }
-        Ok(())
+        Ok(self.liars.extend_from_slice(named)?)
     }
 
     // A keeper deals; an earlier dealing is gone.
-    pub fn deal(&mut self, dealer: u8, rows: Rows) -> Result<(), Expected> {
+    pub fn deal(&mut self, heap: Global, dealer: u8, rows: Rows) -> Result<(), Failure> {
         let dealer = self.company.keeper(dealer)?;
-        let table = rows.table(self.company.f() as usize + 1)?;
-        self.play = Some(Play::new(self.company, dealer, table));
+        let polynomial = rows.polynomial(heap, usize::from(self.company.f()) + 1)?;
+        self.play = Some(Play::new(heap, self.company, dealer, polynomial, rows)?);
         Ok(())
     }
 
     // The next round is called, and whoever keeps the rules speaks: first the mail, then the lines of the board.
     pub fn round(&mut self, heap: Global) -> Result<(), Failure> {
-        let mut play = self.dealing()?;
-        if play.round() == 6 {
-            return Err(Failure::Unusable(Expected::Undecided));
+        let play = self.play.as_mut().ok_or(Expected::Dealing)?;
+        if play.is_decided() {
+            return Err(Expected::Undecided.into());
         }
         play.call();
         for from in 0..=self.company.last() {
-            if !self.liars[from as usize] {
+            if !self.liars.contains(&from) {
                 play.say_all(heap, from)?;
             }
         }
         for from in 0..=self.company.last() {
-            if !self.liars[from as usize] {
+            if !self.liars.contains(&from) {
                 play.post(heap, from)?;
             }
         }
-        self.play = Some(play);
         Ok(())
     }
 
-    // The dealing, if the keeper lies.
-    fn lies(&self, keeper: u8) -> Result<Play, Expected>
-        requires { keeper ≤ 6 }
-    {
-        let play = self.dealing()?;
-        if !self.liars[keeper as usize] {
+    // The dealing, for a keeper that lies.
+    fn dealing_for(&mut self, keeper: u8) -> Result<&mut Play, Expected> {
+        let play = self.play.as_mut().ok_or(Expected::Dealing)?;
+        if !self.liars.contains(&keeper) {
             return Err(Expected::Liar);
         }
         Ok(play)
     }
 
     // A liar sends what its seat would.
-    pub fn say(&mut self, heap: Global, from: u8, to: u8) -> Result<Answer, Failure> {
+    pub fn say(&mut self, heap: Global, from: u8, to: u8) -> Result<Option<Refusal>, Failure> {
         let from = self.company.keeper(from)?;
         let to = self.company.keeper(to)?;
-        let mut play = self.lies(from)?;
-        let answer = play.say(heap, from, to)?;
-        self.play = Some(play);
-        Ok(answer)
+        Ok(self.dealing_for(from)?.say(heap, from, to)?)
     }
 
     // A liar puts on the board what its seat would.
-    pub fn post(&mut self, heap: Global, from: u8) -> Result<[Answer; 7], Failure> {
+    pub fn post(&mut self, heap: Global, from: u8) -> Result<Vec<Refusal>, Failure> {
         let from = self.company.keeper(from)?;
-        let mut play = self.lies(from)?;
-        let answers = play.post(heap, from)?;
-        self.play = Some(play);
-        Ok(answers)
+        Ok(self.dealing_for(from)?.post(heap, from)?)
     }
 
     // A keeper, or somebody in its name, sends a message.
@@ -116,23 +95,24 @@ impl Scene {
         from: u8,
         to: u8,
         draft: Draft,
-    ) -> Result<Answer, Failure> {
+    ) -> Result<Option<Refusal>, Failure> {
         let from = self.company.keeper(from)?;
         let to = self.company.keeper(to)?;
-        let mut play = self.dealing()?;
+        let play = self.play.as_mut().ok_or(Expected::Dealing)?;
         let bytes = draft.bytes(heap, play.dealer)?;
-        let answer = play.mail(from, to, bytes.as_slice());
-        self.play = Some(play);
-        Ok(answer)
+        Ok(play.mail(from, to, bytes.as_slice()))
     }
 
     // A keeper, or somebody in its name, puts a line on the board.
-    pub fn board(&mut self, heap: Global, from: u8, draft: Draft) -> Result<Answer, Failure> {
+    pub fn board(
+        &mut self,
+        heap: Global,
+        from: u8,
+        draft: Draft,
+    ) -> Result<Option<Refusal>, Failure> {
         let from = self.company.keeper(from)?;
-        let mut play = self.dealing()?;
+        let play = self.play.as_mut().ok_or(Expected::Dealing)?;
         let bytes = draft.bytes(heap, play.dealer)?;
-        let answer = play.board(from, bytes.as_slice());
-        self.play = Some(play);
-        Ok(answer)
+        Ok(play.board(from, bytes.as_slice()))
     }
 }

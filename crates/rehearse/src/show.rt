@@ -1,11 +1,9 @@
 // What is shown.
-ghost use Rattle.std.specs.Prelude.{◌≤◌};
-
 use crate::play::Play;
+use crate::rows::Listed;
 use crate::scene::Scene;
 use crate::stage::Stage;
-use crate::table::Listed;
-use dealing::{Answer, Refusal};
+use dealing::{Board, Refusal, Round, Seat};
 use polynomial::Share;
 use std::fmt;
 
@@ -16,99 +14,115 @@ fn show_share<W: fmt::Write>(f: &mut fmt::Formatter<W>, share: &Share) -> fmt::R
     write!(f, "across {across}, down {down}")
 }
 
+// A share and the value that it gives.
+fn show_value<W: fmt::Write>(f: &mut fmt::Formatter<W>, keeper: u8, share: &Share) -> fmt::Result {
+    write!(f, "keeper {keeper}: ")?;
+    show_share(f, share)?;
+    writeln!(f, ", value {}", share.value())
+}
+
+// What a keeper keeps in the end.
+fn show_kept<W: fmt::Write>(f: &mut fmt::Formatter<W>, seat: &Seat) -> fmt::Result {
+    let keeper = seat.terms.me;
+    match seat.kept {
+        Some(kept) => writeln!(f, "keeper {keeper}: keeps {kept}"),
+        None => writeln!(f, "keeper {keeper}: keeps nothing"),
+    }
+}
+
+fn show_complaints<W: fmt::Write>(f: &mut fmt::Formatter<W>, board: &Board) -> fmt::Result {
+    for (by, complaints) in board.complaints.iter().enumerate() {
+        for (about, complaint) in complaints.iter().enumerate() {
+            if let Some(pair) = complaint {
+                writeln!(
+                    f,
+                    "complaint {by} about {about}: across {}, down {}",
+                    pair.across, pair.down
+                )?;
+            }
+        }
+    }
+    Ok(())
+}
+
+fn show_reveals<W: fmt::Write>(f: &mut fmt::Formatter<W>, board: &Board) -> fmt::Result {
+    for (k, reveal) in board.reveals.iter().enumerate() {
+        if let Some(share) = reveal {
+            write!(f, "reveal {k}: ")?;
+            show_share(f, share)?;
+            f.write_str("\n")?;
+        }
+    }
+    Ok(())
+}
+
+// Who said whether it is fine.
+fn show_fines<W: fmt::Write>(f: &mut fmt::Formatter<W>, board: &Board) -> fmt::Result {
+    for (i, fine) in board.fines.iter().enumerate() {
+        if let Some(fine) = fine {
+            let word = if *fine { "yes" } else { "no" };
+            writeln!(f, "fine {i}: {word}")?;
+        }
+    }
+    Ok(())
+}
+
+// How many are fine, and whether that is enough.
+fn show_judgement<W: fmt::Write>(f: &mut fmt::Formatter<W>, seat: &Seat) -> fmt::Result {
+    let fines = seat
+        .board
+        .fines
+        .iter()
+        .filter(|fine| **fine == Some(true))
+        .count();
+    let keepers = seat.terms.keepers();
+    let accepted = if seat.accepted() {
+        "accepted"
+    } else {
+        "not accepted"
+    };
+    writeln!(f, "{fines} of {keepers} are fine: {accepted}")
+}
+
+// What stands on the board.
+fn show_board<W: fmt::Write>(f: &mut fmt::Formatter<W>, seat: &Seat) -> fmt::Result {
+    show_complaints(f, &seat.board)?;
+    show_reveals(f, &seat.board)?;
+    show_fines(f, &seat.board)?;
+    match seat.round {
+        Round::Judge | Round::Decided => show_judgement(f, seat),
+        _ => Ok(()),
+    }
+}
+
 impl Play {
     // What a keeper that keeps the rules has.
-    fn show_keeper<W: fmt::Write>(&self, f: &mut fmt::Formatter<W>, keeper: u8) -> fmt::Result
-        requires { keeper ≤ 6 }
-    {
-        let seat = self.seats[keeper as usize];
-        let share = match self.round() {
-            0 => self.table.polynomial().share(keeper),
-            6 => {
-                return match seat.kept {
-                    Some(kept) => {
-                        let value = kept.value();
-                        writeln!(f, "keeper {keeper}: keeps {value}")
-                    }
-                    None => writeln!(f, "keeper {keeper}: keeps nothing"),
-                };
-            }
-            _ => seat.own(),
+    fn show_keeper<W: fmt::Write>(&self, f: &mut fmt::Formatter<W>, seat: &Seat) -> fmt::Result {
+        let keeper = seat.terms.me;
+        match seat.round {
+            Round::Before => show_value(f, keeper, &self.polynomial.share(keeper)),
+            Round::Decided => show_kept(f, seat),
+            _ => show_value(f, keeper, &seat.own()),
+        }
+    }
+
+    fn show<W: fmt::Write>(&self, f: &mut fmt::Formatter<W>, liars: &[u8]) -> fmt::Result {
+        let Some(first) = self.seats.first() else {
+            return Ok(());
         };
-        let value = share.value().value();
-        write!(f, "keeper {keeper}: ")?;
-        show_share(f, &share)?;
-        writeln!(f, ", value {value}")
-    }
-
-    fn show_complaints<W: fmt::Write>(&self, f: &mut fmt::Formatter<W>) -> fmt::Result {
-        let board = self.seats[0].board;
-        for by in 0..7 {
-            for about in 0..7 {
-                if let Some(pair) = board.complaints[by][about] {
-                    let across = pair.across;
-                    let down = pair.down;
-                    writeln!(
-                        f,
-                        "complaint {by} about {about}: across {across}, down {down}"
-                    )?;
-                }
-            }
-        }
-        Ok(())
-    }
-
-    fn show_reveals<W: fmt::Write>(&self, f: &mut fmt::Formatter<W>) -> fmt::Result {
-        let board = self.seats[0].board;
-        for k in 0..7 {
-            let revealed = board.reveals[k];
-            if let Some(share) = revealed {
-                write!(f, "reveal {k}: ")?;
-                show_share(f, &share)?;
-                f.write_str("\n")?;
-            }
-        }
-        Ok(())
-    }
-
-    // Who said whether it is fine, and how many are.
-    fn show_fines<W: fmt::Write>(&self, f: &mut fmt::Formatter<W>) -> fmt::Result {
-        let seat = self.seats[0];
-        let mut fines = 0u8;
-        for i in 0..7 {
-            if let Some(fine) = seat.board.fines[i] {
-                let word = if fine { "yes" } else { "no" };
-                writeln!(f, "fine {i}: {word}")?;
-                fines = fines.saturating_add(u8::from(fine));
-            }
-        }
-        if self.round() >= 5 {
-            let keepers = seat.terms.keepers();
-            let accepted = if seat.board.accepted(&seat.terms) {
-                "accepted"
-            } else {
-                "not accepted"
-            };
-            writeln!(f, "{fines} of {keepers} are fine: {accepted}")?;
-        }
-        Ok(())
-    }
-
-    fn show<W: fmt::Write>(&self, f: &mut fmt::Formatter<W>, liars: &[bool; 7]) -> fmt::Result {
         let dealer = self.dealer;
-        let table = self.table;
-        let round = self.round();
-        writeln!(f, "dealer {dealer} dealt {table}\nround {round}")?;
-        for keeper in 0..=self.company.last() {
-            if liars[keeper as usize] {
+        let rows = &self.rows;
+        let round = u8::from(first.round);
+        writeln!(f, "dealer {dealer} dealt {rows}\nround {round}")?;
+        for seat in self.seats.iter() {
+            let keeper = seat.terms.me;
+            if liars.contains(&keeper) {
                 writeln!(f, "keeper {keeper}: lies")?;
             } else {
-                self.show_keeper(f, keeper)?;
+                self.show_keeper(f, seat)?;
             }
         }
-        self.show_complaints(f)?;
-        self.show_reveals(f)?;
-        self.show_fines(f)
+        show_board(f, first)
     }
 }
 
@@ -118,7 +132,7 @@ impl fmt::Display for Scene {
         let last = self.company.last();
         writeln!(out, "f {f}, keepers 0 to {last}")?;
         match &self.play {
-            Some(play) => play.show(out, &self.liars),
+            Some(play) => play.show(out, self.liars.as_slice()),
             None => out.write_str("nothing dealt\n"),
         }
     }
@@ -126,29 +140,8 @@ impl fmt::Display for Scene {
 
 impl fmt::Display for Stage {
     fn fmt<W: fmt::Write>(&self, f: &mut fmt::Formatter<W>) -> fmt::Result {
-        match &self.scene {
-            Some(scene) => write!(f, "{scene}"),
-            None => Ok(()),
-        }
-    }
-}
-
-// The messages that were turned away.
-#[derive(Clone, Copy)]
-pub struct Refused(pub [Answer; 7]);
-
-impl fmt::Display for Refused {
-    fn fmt<W: fmt::Write>(&self, f: &mut fmt::Formatter<W>) -> fmt::Result {
-        for answer in &self.0 {
-            if let Answer::Refused(refusal) = answer {
-                let number = match refusal {
-                    Refusal::Malformed => 1u8,
-                    Refusal::Untimely => 2,
-                    Refusal::Unentitled => 3,
-                    Refusal::Improper => 4,
-                };
-                writeln!(f, "refused {number}")?;
-            }
+        if let Some(scene) = &self.scene {
+            write!(f, "{scene}")?;
         }
         Ok(())
     }

@@ -4,31 +4,29 @@ ghost use Rattle.std.specs.Prelude.{◌≡◌, OnErr};
 use crate::expected::Expected;
 use crate::failure::Failure;
 use crate::scene::Scene;
-use crate::script::Command;
-use dealing::Answer;
-use std::alloc::Global;
+use crate::script::{Command, Step};
+use dealing::Refusal;
+use std::alloc::{AllocError, Global};
 
 // Empty until f is given.
-#[derive(Clone, Copy)]
+#[derive(Drop)]
 pub struct Stage {
     pub scene: Option<Scene>,
 }
 
 // What a command that is carried out gives.
-#[derive(Clone, Copy)]
+#[derive(Drop)]
 pub enum Reply {
     Nothing,
-    // What was made of the messages that were said.
-    Answered([Answer; 7]),
+    // The messages that were turned away.
+    Refused(Vec<Refusal>),
     // What stands is to be shown.
     Show,
 }
 
 // What was made of one message.
-fn one(answer: Answer) -> Reply {
-    let mut answers = [Answer::Taken; 7];
-    answers[0] = answer;
-    Reply::Answered(answers)
+fn one(heap: Global, refused: Option<Refusal>) -> Result<Reply, AllocError> {
+    Ok(Reply::Refused(refused.into_iter().collect(heap)?))
 }
 
 impl Stage {
@@ -40,44 +38,40 @@ impl Stage {
     pub fn carry_out(&mut self, heap: Global, command: Command) -> Result<Reply, Failure>
         ensures same { OnErr result (self.new ≡ self.old) }
     {
-        if let Command::F(company) = command {
-            self.scene = Some(Scene::new(company));
-            return Ok(Reply::Nothing);
+        match command {
+            Command::F(company) => {
+                self.scene = Some(Scene::new(heap, company));
+                Ok(Reply::Nothing)
+            }
+            Command::Step(step) => self.take(heap, step),
         }
-        let Some(mut scene) = self.scene else {
-            return Err(Failure::Unusable(Expected::FGiven));
-        };
-        let reply = scene.play(heap, command)?;
+    }
+
+    // Takes a step on a copy of what stands.
+    fn take(&mut self, heap: Global, step: Step) -> Result<Reply, Failure>
+        ensures same { OnErr result (self.new ≡ self.old) }
+    {
+        let mut scene = self.scene.as_ref().ok_or(Expected::FGiven)?.clone()?;
+        let reply = scene.play(heap, step)?;
         self.scene = Some(scene);
         Ok(reply)
     }
 }
 
 impl Scene {
-    // Carries out a command on a copy.
-    fn play(&mut self, heap: Global, command: Command) -> Result<Reply, Failure> {
-        match command {
-            Command::F(company) => {
-                *self = Scene::new(company);
-                Ok(Reply::Nothing)
+    fn play(&mut self, heap: Global, step: Step) -> Result<Reply, Failure> {
+        match step {
+            Step::Liar(named) => self.liar(named.as_slice())?,
+            Step::Deal { dealer, rows } => self.deal(heap, dealer, rows)?,
+            Step::Round => self.round(heap)?,
+            Step::Say { from, to } => return Ok(one(heap, self.say(heap, from, to)?)?),
+            Step::Post { from } => return Ok(Reply::Refused(self.post(heap, from)?)),
+            Step::Send { from, to, draft } => {
+                return Ok(one(heap, self.send(heap, from, to, draft)?)?);
             }
-            Command::Liar(named) => {
-                self.liar(named)?;
-                Ok(Reply::Nothing)
-            }
-            Command::Deal { dealer, rows } => {
-                self.deal(dealer, rows)?;
-                Ok(Reply::Nothing)
-            }
-            Command::Round => {
-                self.round(heap)?;
-                Ok(Reply::Nothing)
-            }
-            Command::Say { from, to } => Ok(one(self.say(heap, from, to)?)),
-            Command::Post { from } => Ok(Reply::Answered(self.post(heap, from)?)),
-            Command::Send { from, to, draft } => Ok(one(self.send(heap, from, to, draft)?)),
-            Command::Board { from, draft } => Ok(one(self.board(heap, from, draft)?)),
-            Command::Show => Ok(Reply::Show),
+            Step::Board { from, draft } => return Ok(one(heap, self.board(heap, from, draft)?)?),
+            Step::Show => return Ok(Reply::Show),
         }
+        Ok(Reply::Nothing)
     }
 }

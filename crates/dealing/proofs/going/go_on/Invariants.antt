@@ -4,8 +4,8 @@ use Rattle.polynomial.specs.Lists.{held}
 use Rattle.dealing.specs.Going.{goes_on}
 use Rattle.dealing.proofs.going.go_on.Given as goal
 
--- below i they go on, from i on they are as they were
-abbrev pub invariant-loop-i : goal.invariant-loop-i
-invariant-loop-i l =
-    ((k : ℕ) → k < l.i → option_map held (get_or l.shares k None) ≡ goes_on (option_map held (get_or l.revealed k None)) (option_map held (get_or l.initial.shares k None))) ×
-    ((k : ℕ) → l.i ≤ k → get_or l.shares k None ≡ get_or l.initial.shares k None)
+-- below k they go on, from k on they are as they were
+abbrev pub invariant-loop-k : goal.invariant-loop-k
+invariant-loop-k l =
+    ((j : ℕ) → j < l.k → option_map held (get_or l.shares j None) ≡ goes_on (option_map held (get_or l.revealed j None)) (option_map held (get_or l.initial.shares j None))) ×
+    ((j : ℕ) → l.k ≤ j → get_or l.shares j None ≡ get_or l.initial.shares j None)

@@ -1,19 +1,16 @@
-use Rattle.std.proofs.Common.{◌≡◌, None}
-use Rattle.rules.specs.Wire.{parse}
-use Rattle.message.proofs.Parses.{too_short, no_dealer, by_kind_lem, no_message, written}
+use Rattle.std.proofs.Common.{Ok, Err, rules}
+use Rattle.std.proofs.lemmas.List.Edits.{get_or-between}
+use Rattle.rules.specs.Wire.{number4}
+use Rattle.message.proofs.Parses.{too_short, no_dealer, whole, both}
 use Rattle.message.proofs.reading.read.Goals as goal
-use Rattle.message.proofs.reading.read.Goals.{then-bytes-lt6-via-then-bytes-lt6, then-bytes-lt6-via-else-bytes-lt6+then-bytes-keepers}
 
 pub returns-then-bytes-lt6 : goal.returns-then-bytes-lt6
-returns-then-bytes-lt6 c =
-    let none : parse c.args.keepers c.args.shape.high c.args.shape.low c.args.bytes.now ≡ None =
-    elim c.then-bytes-lt6.branch [
-      | then-bytes-lt6-via-then-bytes-lt6 w ↦ too_short _ _ _ _ w.if-bytes-lt6.true
-      | then-bytes-lt6-via-else-bytes-lt6+then-bytes-keepers w ↦ no_dealer _ _ _ _ w.if-bytes-keepers.true
-    ] in
-    record { parses = none; written = no_message _ _ _ _ c.ranges.keepers.fits (λ i. (c.type_inv.bytes i).fits) none }
+returns-then-bytes-lt6 c = both _ _ _ _ c.ranges.keepers c.type_inv.bytes (Err _) (search (rules, too_short, no_dealer))
+
+pub returns-in_err-body : goal.returns-in_err-body
+unfolding number4
+returns-in_err-body c = both _ _ _ _ c.ranges.keepers c.type_inv.bytes _ (search (rules, whole, get_or-between))
 
 pub returns : goal.returns
-returns c =
-    let parses = by_kind_lem _ _ _ _ c.if-bytes-lt6.false c.if-bytes-keepers.false _ c.by_kind.ensures _ _ c.ok_or.ensures.value in
-    record { parses = parses; written = written _ _ _ _ c.ranges.keepers.fits (λ i. (c.type_inv.bytes i).fits) _ parses }
+unfolding number4
+returns c = both _ _ _ _ c.ranges.keepers c.type_inv.bytes (Ok _) (search (rules, whole, get_or-between))

@@ -1,9 +1,0 @@
-use Rattle.std.proofs.Common.{◌≡◌, false}
-use Rattle.algebra.specs.Counting.{count}
-use Rattle.rules.specs.Deal.{or_else}
-use Rattle.rules.specs.Rounds.{said_fine}
-use Rattle.dealing.specs.Model.{posts_of}
-use Rattle.dealing.proofs.types.Board.fines.Given as goal
-
-abbrev pub invariant-loop-i : goal.invariant-loop-i
-invariant-loop-i l = l.fines ≡ count l.i (λ i. or_else false (said_fine (posts_of l.self) i))

@@ -1,6 +1,0 @@
-use Rattle.std.proofs.Common.{◌≡◌, ◌*◌, ◌%◌, ◌^◌}
-use Rattle.algebra.specs.Prime.{p}
-use Rattle.exports.proofs.vochapir_multiply_chain.Given as goal
-
-abbrev pub invariant-loop : goal.invariant-loop
-invariant-loop l = l.product.value ≡ (l.a * l.b ^ l.counter) % p

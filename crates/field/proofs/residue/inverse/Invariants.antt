@@ -1,8 +1,0 @@
-use Rattle.field.proofs.Euclid.{Step}
-use Rattle.field.proofs.residue.inverse.Given as goal
-
-abbrev pub invariant-loop-left : goal.invariant-loop-left
-invariant-loop-left l = Step l.negated l.a l.over l.left l.before l.by
-
-abbrev pub decreases-loop-left : goal.decreases-loop-left
-decreases-loop-left l = l.left

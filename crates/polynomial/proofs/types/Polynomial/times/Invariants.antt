@@ -1,7 +1,0 @@
-use Rattle.std.proofs.Common.{◌≡◌, ℕ, ◌*◌, ◌%◌, ◌<◌, length}
-use Rattle.algebra.specs.Prime.{p}
-use Rattle.polynomial.proofs.Sums.{at}
-use Rattle.polynomial.proofs.types.Polynomial.times.Given as goal
-
-abbrev pub invariant-loop-i : goal.invariant-loop-i
-invariant-loop-i l = (length l.coefficients ≡ 6) × ((k : ℕ) → k < l.i → at l.coefficients k ≡ (l.factor.value * at l.self.coefficients k) % p)
