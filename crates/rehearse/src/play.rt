@@ -2,7 +2,6 @@
 ghost use Rattle.std.specs.Prelude.{◌≡◌, ◌+◌, ◌*◌, ◌≤◌};
 
 use crate::company::Company;
-use crate::rows::Rows;
 use dealing::{Refusal, Round, Seat, Terms};
 use message::write;
 use polynomial::Bivariate;
@@ -13,7 +12,6 @@ pub struct Play {
     pub company: Company,
     pub dealer: u8,
     pub polynomial: Bivariate,
-    pub rows: Rows,
     // One for each keeper.
     pub seats: Vec<Seat>,
 }
@@ -25,7 +23,6 @@ impl Play {
         company: Company,
         dealer: u8,
         polynomial: Bivariate,
-        rows: Rows,
     ) -> Result<Play, AllocError>
         requires { (dealer ≤ 3 * company.f) × ((polynomial.shape.high ≤ company.f + 1) × (polynomial.shape.low ≤ company.f + 1)) }
     {
@@ -38,7 +35,6 @@ impl Play {
             company,
             dealer,
             polynomial,
-            rows,
             seats,
         })
     }

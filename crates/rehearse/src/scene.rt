@@ -42,7 +42,7 @@ impl Scene {
     pub fn deal(&mut self, heap: Global, dealer: u8, rows: Rows) -> Result<(), Failure> {
         let dealer = self.company.keeper(dealer)?;
         let polynomial = rows.polynomial(heap, usize::from(self.company.f()) + 1)?;
-        self.play = Some(Play::new(heap, self.company, dealer, polynomial, rows)?);
+        self.play = Some(Play::new(heap, self.company, dealer, polynomial)?);
         Ok(())
     }
 
