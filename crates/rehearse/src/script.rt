@@ -69,11 +69,13 @@ fn alone(mut words: Words<'_>, step: Step) -> Result<Step, Failure> {
 }
 
 // `liar I ..`
-fn liar(heap: Global, mut words: Words<'_>) -> Result<Step, Failure> {
+fn liar(heap: Global, words: Words<'_>) -> Result<Step, Failure> {
     let mut named = Vec::new(heap);
-    named.push(words.keeper()?)?;
     for word in words {
         named.push(words::keeper(word)?)?;
+    }
+    if named.is_empty() {
+        return Err(Expected::Named.into());
     }
     Ok(Step::Liar(named))
 }
