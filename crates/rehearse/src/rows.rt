@@ -10,7 +10,7 @@ use polynomial::{Bivariate, Shape};
 use std::alloc::Global;
 
 // One or more rows of one length, each with a number.
-#[derive(Clone, Drop)]
+#[derive(Drop)]
 pub struct Rows(Vec<Vec<Element>>);
 
 impl Rows {

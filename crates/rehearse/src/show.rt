@@ -2,7 +2,7 @@
 use crate::play::Play;
 use crate::scene::Scene;
 use crate::stage::Stage;
-use dealing::{Board, Refusal, Round, Seat};
+use dealing::{Board, Round, Seat};
 use polynomial::Share;
 use std::fmt;
 
