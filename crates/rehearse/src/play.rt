@@ -1,5 +1,5 @@
 // A dealing that is played: one seat for each keeper, and all that crosses between them as bytes.
-ghost use Rattle.std.specs.Prelude.{◌≡◌, ◌+◌, ◌*◌, ◌≤◌};
+ghost use Rattle.std.specs.Prelude.{◌≡◌, ◌+◌, ◌*◌, ◌≤◌, OnSome};
 
 use crate::company::Company;
 use dealing::{Refusal, Round, Seat, Terms};
@@ -51,8 +51,10 @@ impl Play {
         }
     }
 
-    // Hands a keeper what another one sends it, which it may turn away.
-    pub fn mail(&mut self, from: u8, to: u8, bytes: &[u8]) -> Option<Refusal> {
+    // Hands a keeper what another one sends it. If it is turned away, all seats stay as they were.
+    pub fn mail(&mut self, from: u8, to: u8, bytes: &[u8]) -> Option<Refusal>
+        ensures { OnSome result (self.new.seats.items ≡ self.old.seats.items) }
+    {
         let seat = self.seats.get_mut(usize::from(to))?;
         seat.take_mail(from, bytes).err()
     }

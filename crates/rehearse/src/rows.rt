@@ -1,5 +1,5 @@
 // The coefficients of a polynomial F(x, y) as they are written: for each power of x a row of coefficients in y.
-ghost use Rattle.std.specs.Prelude.{◌≡◌, ◌≤◌, IfOk};
+ghost use Rattle.std.specs.Prelude.{◌≤◌, IfOk};
 
 use crate::expected::Expected;
 use crate::failure::Failure;

@@ -1,6 +1,4 @@
 // What stands on the stage: the keepers, who of them lies, and a dealing.
-ghost use Rattle.std.specs.Prelude.{◌≡◌, ◌+◌, ◌*◌, ◌≤◌};
-
 use crate::company::Company;
 use crate::draft::Draft;
 use crate::expected::Expected;
