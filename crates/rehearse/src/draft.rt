@@ -128,12 +128,13 @@ impl<'a> Body<'a> {
         Ok(self.bytes.push(self.words.number()?)?)
     }
 
-    // A number as eight bytes.
+    // A number below 2^64.
     fn number(&mut self) -> Result<(), Failure> {
         let number = self.words.number()?;
         Ok(self.put(number)?)
     }
 
+    // Eight bytes.
     fn put(&mut self, number: u64) -> Result<(), AllocError> {
         self.bytes.extend_from_slice(&number.to_be_bytes())
     }

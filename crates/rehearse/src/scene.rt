@@ -47,6 +47,7 @@ impl Scene {
         }
     }
 
+    // Takes a step. One that fails may be half done, so the stage has a copy take it.
     pub fn take(&mut self, heap: Global, step: Step) -> Result<Reply, Failure> {
         match step {
             Step::Liar(named) => self.liar(named.as_slice()),

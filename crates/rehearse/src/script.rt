@@ -63,7 +63,7 @@ fn parse_step(heap: Global, first: &str, words: Words<'_>) -> Result<Step, Failu
 }
 
 // A line of one word.
-fn alone(mut words: Words<'_>, step: Step) -> Result<Step, Failure> {
+fn alone(words: Words<'_>, step: Step) -> Result<Step, Failure> {
     words.end()?;
     Ok(step)
 }
