@@ -38,7 +38,7 @@ impl Board {
         at(&self.fines, usize::from(i))
     }
 
-    // One keeper complains about another.
+    // One keeper complains about another. By index, as `put` writes.
     #[tactic(auto, using(crate::proofs::Tables::written))]
     pub(crate) fn complain(&mut self, by: u8, about: u8, pair: Pair)
         ensures { posts_of self.new ≡ posted_it (posts_of self.old) by (Complaint about (said pair)) }
