@@ -1,9 +1,10 @@
 // A dealing that is played: one seat for each keeper, and all that crosses between them as bytes.
-ghost use Rattle.std.specs.Prelude.{◌≡◌, ◌+◌, ◌*◌, ◌≤◌, OnSome};
+ghost use Rattle.std.specs.Prelude.{◌≡◌, ◌+◌, ◌*◌, ◌≤◌, ◌↔◌, All, IsTrue, OnSome};
+ghost use Rattle.dealing.specs.declared.types.Round.TheVariants.{Decided};
 
 use crate::company::Company;
 use dealing::{Refusal, Round, Seat, Terms};
-use message::write;
+use message::{Message, write};
 use polynomial::Bivariate;
 use std::alloc::{AllocError, Global};
 
@@ -40,7 +41,9 @@ impl Play {
     }
 
     // Is there no other round to call?
-    pub fn is_decided(&self) -> bool {
+    pub fn is_decided(&self) -> bool
+        ensures { IsTrue result ↔ All (λ seat. seat.round ≡ Decided) self.now.seats.items }
+    {
         self.seats.iter().all(|seat| seat.round == Round::Decided)
     }
 
@@ -68,30 +71,31 @@ impl Play {
         said
     }
 
-    // Keeper `from` sends keeper `to` what its seat would, if anything.
-    pub fn say(&mut self, heap: Global, from: u8, to: u8) -> Result<Option<Refusal>, AllocError> {
-        let Some(message) = self
-            .seats
-            .get(usize::from(from))
-            .and_then(|seat| seat.mail_to(to))
-        else {
+    // The bytes of what a keeper's seat says, if anything.
+    fn said<F: FnOnce(&Seat) -> Option<Message>>(
+        &self,
+        heap: Global,
+        from: u8,
+        says: F,
+    ) -> Result<Option<Vec<u8>>, AllocError>
+        requires { F.IsAlwaysCallable says }
+    {
+        let Some(message) = self.seats.get(usize::from(from)).and_then(says) else {
             return Ok(None);
         };
-        let bytes = write(heap, &message)?;
-        Ok(self.mail(from, to, bytes.as_slice()))
+        Ok(Some(write(heap, &message)?))
+    }
+
+    // Keeper `from` sends keeper `to` what its seat would, if anything.
+    pub fn say(&mut self, heap: Global, from: u8, to: u8) -> Result<Option<Refusal>, AllocError> {
+        let bytes = self.said(heap, from, |seat| seat.mail_to(to))?;
+        Ok(bytes.and_then(|bytes| self.mail(from, to, bytes.as_slice())))
     }
 
     // A keeper puts on the board what its seat would about keeper k, if anything.
     fn line(&mut self, heap: Global, from: u8, k: u8) -> Result<Option<Refusal>, AllocError> {
-        let Some(message) = self
-            .seats
-            .get(usize::from(from))
-            .and_then(|seat| seat.line(k))
-        else {
-            return Ok(None);
-        };
-        let bytes = write(heap, &message)?;
-        Ok(self.board(from, bytes.as_slice()))
+        let bytes = self.said(heap, from, |seat| seat.line(k))?;
+        Ok(bytes.and_then(|bytes| self.board(from, bytes.as_slice())))
     }
 
     // A keeper sends all mail that its seat would.

@@ -88,6 +88,7 @@ impl Scene {
             return Err(Expected::Undecided.into());
         }
         play.call();
+        // Twice over the keepers: all mail comes before any line.
         for from in 0..=self.company.last() {
             if !self.liars.contains(&from) {
                 play.say_all(heap, from)?;
