@@ -15,7 +15,7 @@ use crate::types::{Board, Seat};
 use polynomial::{Pair, Share};
 
 impl Board {
-    // The complaint of one keeper about another.
+    // The complaint of one keeper about another; two numbers and no pair of them, since whoever asks has each from elsewhere.
     pub(crate) fn complaint(&self, by: u8, about: u8) -> Option<Pair>
         ensures { option_map said result ≡ complaint (posts_of self.now) by about }
     {

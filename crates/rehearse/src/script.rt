@@ -15,7 +15,7 @@ pub enum Command {
     Step(Step),
 }
 
-// What needs keepers.
+// What needs keepers. `from` and `to` are no struct: each is tested alone.
 #[derive(Drop)]
 pub enum Step {
     Liar(Vec<u8>),

@@ -92,7 +92,7 @@ where
     digits(word)?.parse().map_err(|_| Expected::Fitting)
 }
 
-// The number that a word writes, or the largest where that is too large.
+// The number that a word writes, or the largest where that is too large: no company has such a keeper, and who names it is told which there are.
 pub fn keeper(word: &str) -> Result<u8, Expected> {
     Ok(digits(word)?.parse().unwrap_or(u8::MAX))
 }
