@@ -22,6 +22,7 @@ impl Shape {
         Some(Shape { high, low })
     }
 
+    // The clauses say the bound that the type has: a caller reads a clause, here and below.
     pub fn high(&self) -> usize
         ensures { (result ≡ self.now.high) × (result ≤ 6) }
     {
