@@ -15,7 +15,7 @@ use crate::types::{Board, Seat};
 use polynomial::{Pair, Share};
 
 impl Board {
-    // The complaint of one keeper about another.
+    // The complaint of one keeper about another; two numbers and no pair of them, since whoever asks has each from elsewhere.
     pub(crate) fn complaint(&self, by: u8, about: u8) -> Option<Pair>
         ensures { option_map said result ≡ complaint (posts_of self.now) by about }
     {
@@ -38,7 +38,7 @@ impl Board {
         at(&self.fines, usize::from(i))
     }
 
-    // One keeper complains about another.
+    // One keeper complains about another. By index, as `put` writes.
     #[tactic(auto, using(crate::proofs::Tables::written))]
     pub(crate) fn complain(&mut self, by: u8, about: u8, pair: Pair)
         ensures { posts_of self.new ≡ posted_it (posts_of self.old) by (Complaint about (said pair)) }

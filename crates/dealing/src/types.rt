@@ -51,14 +51,14 @@ pub struct Terms {
     ghost low: { shape.low ≤ f + 1 },
 }
 
-// What a keeper was sent and told.
+// What a keeper was sent and told. Sixteen places, and no Vec: no round and no message can run out of memory.
 #[derive(Clone, Copy)]
 pub struct Hand {
     pub share: Option<Share>,
     pub told: [Option<Pair>; 16],
 }
 
-// What stands on the board: complaints by and about each keeper, the shares that were revealed, and who said whether all fits.
+// What stands on the board: complaints by and about each keeper, the shares that were revealed, and who said whether all fits. Sixteen places each, as in a hand.
 #[derive(Clone, Copy)]
 pub struct Board {
     pub complaints: [[Option<Pair>; 16]; 16],

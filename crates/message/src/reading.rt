@@ -28,6 +28,7 @@ struct Frame<'a> {
     head: Head,
 }
 
+// A place is asked to lie within the bytes, and not tested: their number is, once, before any is read.
 impl Frame<'_> {
     // The bytes are so many.
     fn check_len(&self, len: usize) -> Result<(), Malformed>
@@ -72,6 +73,7 @@ impl Frame<'_> {
         requires { (place + 8 * count ≤ length self.now.bytes.now) × (count ≤ 6) }
         ensures { Gives coeffs result (small (row_at self.now.bytes.now place count)) (row_at self.now.bytes.now place count) }
     {
+        // Part of an array of six, and no Vec: reading can't run out of memory.
         let mut numbers = [Element::zero(); 6];
         let row = &mut numbers[..count];
         for (k, number) in row.iter_mut().enumerate() {

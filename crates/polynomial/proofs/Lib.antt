@@ -3,3 +3,4 @@ mod Horner
 mod Places
 mod Sums
 mod Rows
+mod Texts

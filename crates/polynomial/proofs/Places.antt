@@ -1,5 +1,5 @@
 -- What stands at each place of a list of elements, as a number.
-use Rattle.std.proofs.Common.{◌≡◌, ℕ, zero, suc, ◌<◌, ◌≤◌, List, [], ◌∷◌, map, length, get_or, take, sym, refl, ap, ◌∙◌, arith}
+use Rattle.std.proofs.Common.{◌≡◌, ℕ, zero, suc, ◌<◌, ◌≤◌, List, [], ◌∷◌, ◌++◌, map, length, get_or, take, drop, replicate, sym, refl, ap, ◌∙◌, arith}
 use Rattle.std.proofs.lemmas.List.{get_or-map, get_or_past, length-map, length-take, get_or-take, ext_get_or, take-map}
 use Rattle.algebra.specs.Prime.{p}
 use Rattle.field.specs.declared.element.Element.{Element}
@@ -41,3 +41,19 @@ front_is n cs l h len same =
     ext_get_or 0 (numbers (take n cs)) l (omega (arith, length_front n cs h))
     (λ k lt. let less : k < n = omega (arith, length_front n cs h) in
     ap (λ ns. get_or ns k 0) (sym (take-map (λ (e : Element). e.value) n cs)) ∙ get_or-take n (numbers cs) k 0 less ∙ same k less)
+
+-- zeros behind a list that was copied to the front of zeros
+zero_at : (z : Element) → z.value ≡ 0 → (n m k : ℕ) → get_or (numbers (drop n (replicate m z))) k 0 ≡ 0
+zero_at z e zero zero k = refl
+zero_at z e zero (suc m) zero = e
+zero_at z e zero (suc m) (suc k) = zero_at z e zero m k
+zero_at z e (suc n) zero k = refl
+zero_at z e (suc n) (suc m) k = zero_at z e n m k
+
+clean_after : (xs zs : List Element) → ((k : ℕ) → get_or (numbers zs) k 0 ≡ 0) → Clean (length xs) (xs ++ zs)
+clean_after [] zs z k le = z k
+clean_after (x ∷ xs) zs z zero le = absurd (omega arith)
+clean_after (x ∷ xs) zs z (suc k) le = clean_after xs zs z k (omega arith)
+
+pub copied_clean : (z : Element) → z.value ≡ 0 → (m : ℕ) (xs cs : List Element) → xs ≡ cs → Clean (length cs) (xs ++ drop (length cs) (replicate m z))
+copied_clean z e m xs cs is = rw is (clean_after cs _ (zero_at z e (length cs) m))

@@ -1,13 +1,15 @@
 // Polynomials in two unknowns, and their shares.
-ghost use Rattle.std.specs.Prelude.{◌≡◌, ℕ, ◌*◌, ◌<◌, ◌≤◌, map, length, replicate, MatchOption, ◌≢◌};
+ghost use Rattle.std.specs.Prelude.{◌≡◌, ℕ, ◌*◌, ◌<◌, ◌≤◌, map, length, replicate, MatchOption, Some, ◌≢◌};
 ghost use Rattle.algebra.specs.Polynomial.{Exact2, set_first, set_second};
 ghost use Rattle.algebra.specs.Prime.{p};
 ghost use Rattle.algebra.specs.Sharing.{point, share_of};
 ghost use Rattle.polynomial.specs.Lists.{coeffs, held, rows_of};
 ghost use Rattle.polynomial.specs.Numbers.{cut, numbers};
+ghost use Rattle.polynomial.specs.Shown.{shown_rows};
 
 use crate::types::{Bivariate, Polynomial, Shape, Share};
 use field::Element;
+use std::fmt;
 
 impl Shape {
     // The shape with `high` coefficients in x and `low` in y, if both are at most six.
@@ -20,6 +22,7 @@ impl Shape {
         Some(Shape { high, low })
     }
 
+    // The clauses say the bound that the type has: a caller reads a clause, here and below.
     pub fn high(&self) -> usize
         ensures { (result ≡ self.now.high) × (result ≤ 6) }
     {
@@ -103,5 +106,21 @@ impl Bivariate {
             rows: [Polynomial::zero(); 6],
             shape: Shape { high: 0, low: 0 },
         };
+    }
+}
+
+// Its rows, with slashes between them.
+impl fmt::Display for Bivariate {
+    ghost output = { λ f. Some (shown_rows (rows_of f)) };
+
+    fn fmt<W: fmt::Write>(&self, f: &mut fmt::Formatter<W>) -> fmt::Result {
+        let Some((first, rest)) = self.rows[..self.shape.high].split_first() else {
+            return Ok(());
+        };
+        write!(f, "{first}")?;
+        for row in rest {
+            write!(f, " / {row}")?;
+        }
+        Ok(())
     }
 }

@@ -1,14 +1,15 @@
 // Polynomials in one unknown.
-ghost use Rattle.std.specs.Prelude.{◌≡◌, ℕ, ◌+◌, ◌*◌, ◌%◌, ◌<◌, ◌≤◌, [], length, replicate, MatchOption};
+ghost use Rattle.std.specs.Prelude.{◌≡◌, ℕ, ◌+◌, ◌*◌, ◌%◌, ◌<◌, ◌≤◌, [], length, replicate, MatchOption, Some};
 ghost use Rattle.algebra.specs.Polynomial.{plus, times, value};
 ghost use Rattle.algebra.specs.Prime.{p};
 ghost use Rattle.polynomial.specs.Lists.{coeffs};
 ghost use Rattle.polynomial.specs.Numbers.{numbers};
+ghost use Rattle.polynomial.specs.Shown.{shown};
 
 use crate::types::Polynomial;
 use field::Element;
-use std::array;
 use std::ops::{Add, Mul};
+use std::{array, fmt};
 
 // The value at x by Horner's rule.
 fn horner(cs: &[Element], x: Element) -> Element
@@ -65,7 +66,7 @@ impl Polynomial {
     pub fn as_slice(&self) -> &[Element]
         ensures { (numbers result.now ≡ coeffs self.now) × (length result.now ≤ 6) }
     {
-        &self.coefficients[0..self.len]
+        &self.coefficients[..self.len]
     }
 
     pub fn evaluate(&self, x: Element) -> Element
@@ -116,5 +117,21 @@ impl Mul<Element> for Polynomial {
             coefficients: self.coefficients.map(|c| factor * c),
             len: self.len,
         }
+    }
+}
+
+// Its coefficients, the lowest first, with blanks between them; `-` if it has none.
+impl fmt::Display for Polynomial {
+    ghost output = { λ f. Some (shown (coeffs f)) };
+
+    fn fmt<W: fmt::Write>(&self, f: &mut fmt::Formatter<W>) -> fmt::Result {
+        let Some((first, rest)) = self.as_slice().split_first() else {
+            return f.write_str("-");
+        };
+        write!(f, "{first}")?;
+        for c in rest {
+            write!(f, " {c}")?;
+        }
+        Ok(())
     }
 }

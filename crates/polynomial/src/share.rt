@@ -1,13 +1,15 @@
 // Shares, and when they fit together.
-ghost use Rattle.std.specs.Prelude.{◌≡◌, ℕ, ◌≤◌, length, replicate, Decides};
+ghost use Rattle.std.specs.Prelude.{◌≡◌, ℕ, ◌≤◌, length, replicate, Some, Decides};
 ghost use Rattle.algebra.specs.Polynomial.{value};
 ghost use Rattle.algebra.specs.Prime.{p};
 ghost use Rattle.algebra.specs.Sharing.{Agree, pair_at, swap};
 ghost use Rattle.polynomial.specs.Lists.{coeffs, held, said};
 ghost use Rattle.polynomial.specs.Numbers.{numbers};
+ghost use Rattle.polynomial.specs.Shown.{shown_pair, shown_share};
 
 use crate::types::{Pair, Polynomial, Shape, Share};
 use field::Element;
+use std::fmt;
 
 impl Pair {
     // As the other one sees it.
@@ -18,6 +20,23 @@ impl Pair {
             across: self.down,
             down: self.across,
         }
+    }
+}
+
+impl fmt::Display for Pair {
+    ghost output = { λ a. Some (shown_pair (said a)) };
+
+    fn fmt<W: fmt::Write>(&self, f: &mut fmt::Formatter<W>) -> fmt::Result {
+        let Pair { across, down } = *self;
+        write!(f, "across {across}, down {down}")
+    }
+}
+
+impl fmt::Display for Share {
+    ghost output = { λ x. Some (shown_share (held x)) };
+
+    fn fmt<W: fmt::Write>(&self, f: &mut fmt::Formatter<W>) -> fmt::Result {
+        write!(f, "across {}, down {}", self.across, self.down)
     }
 }
 

@@ -24,7 +24,7 @@ pub struct Shape {
     ghost low_short: { low ≤ 6 },
 }
 
-// A polynomial F(x, y): for each power of x a row of coefficients in y, and empty rows after them.
+// A polynomial F(x, y): for each power of x a row of coefficients in y, and empty rows after them. An array, as in a polynomial.
 #[derive(Clone, Copy, Debug, PartialEq, Eq)]
 pub struct Bivariate {
     pub(crate) rows: [Polynomial; 6],

@@ -21,21 +21,21 @@ impl Company {
     }
 
     pub fn f(self) -> u8
-        ensures { result ≡ self.f }
+        ensures { (result ≡ self.f) × (result ≤ 2) }
     {
         self.f
     }
 
     // The last of the keepers.
     pub fn last(self) -> u8
-        ensures { result ≡ 3 * self.f }
+        ensures { (result ≡ 3 * self.f) × (result ≤ 6) }
     {
         3 * self.f
     }
 
     // A keeper, if there is one of that number.
     pub fn keeper(self, number: u8) -> Result<u8, Expected>
-        ensures { MatchResult result (λ k. (k ≡ number) × (k ≤ 3 * self.f)) (λ _. 3 * self.f < number) }
+        ensures { MatchResult result (λ k. (k ≡ number) × (k ≤ 3 * self.f) × (k ≤ 6)) (λ _. 3 * self.f < number) }
     {
         let last = self.last();
         if number > last {

@@ -24,16 +24,8 @@ impl Draft {
         if words.pass("hex") {
             return Ok(Draft::Bytes(hex(heap, words)?));
         }
-        let night = if words.pass("night") {
-            words.number()?
-        } else {
-            0
-        };
-        let dealer = if words.pass("dealer") {
-            Some(words.number()?)
-        } else {
-            None
-        };
+        let night = words.number_after("night")?.unwrap_or(0);
+        let dealer = words.number_after("dealer")?;
         let kind = words.next().and_then(kind_of).ok_or(Expected::Message)?;
         let body = Body::read(heap, kind, words)?;
         Ok(Draft::Message {
@@ -128,12 +120,13 @@ impl<'a> Body<'a> {
         Ok(self.bytes.push(self.words.number()?)?)
     }
 
-    // A number as eight bytes.
+    // A number below 2^64.
     fn number(&mut self) -> Result<(), Failure> {
         let number = self.words.number()?;
         Ok(self.put(number)?)
     }
 
+    // Eight bytes.
     fn put(&mut self, number: u64) -> Result<(), AllocError> {
         self.bytes.extend_from_slice(&number.to_be_bytes())
     }

@@ -1,10 +1,10 @@
 // A dealing that is played: one seat for each keeper, and all that crosses between them as bytes.
-ghost use Rattle.std.specs.Prelude.{◌≡◌, ◌+◌, ◌*◌, ◌≤◌};
+ghost use Rattle.std.specs.Prelude.{◌≡◌, ◌+◌, ◌*◌, ◌≤◌, ◌↔◌, All, IsTrue, OnSome};
+ghost use Rattle.dealing.specs.declared.types.Round.TheVariants.{Decided};
 
 use crate::company::Company;
-use crate::rows::Rows;
 use dealing::{Refusal, Round, Seat, Terms};
-use message::write;
+use message::{Message, write};
 use polynomial::Bivariate;
 use std::alloc::{AllocError, Global};
 
@@ -13,7 +13,6 @@ pub struct Play {
     pub company: Company,
     pub dealer: u8,
     pub polynomial: Bivariate,
-    pub rows: Rows,
     // One for each keeper.
     pub seats: Vec<Seat>,
 }
@@ -25,7 +24,6 @@ impl Play {
         company: Company,
         dealer: u8,
         polynomial: Bivariate,
-        rows: Rows,
     ) -> Result<Play, AllocError>
         requires { (dealer ≤ 3 * company.f) × ((polynomial.shape.high ≤ company.f + 1) × (polynomial.shape.low ≤ company.f + 1)) }
     {
@@ -38,13 +36,14 @@ impl Play {
             company,
             dealer,
             polynomial,
-            rows,
             seats,
         })
     }
 
     // Is there no other round to call?
-    pub fn is_decided(&self) -> bool {
+    pub fn is_decided(&self) -> bool
+        ensures { IsTrue result ↔ All (λ seat. seat.round ≡ Decided) self.now.seats.items }
+    {
         self.seats.iter().all(|seat| seat.round == Round::Decided)
     }
 
@@ -55,8 +54,10 @@ impl Play {
         }
     }
 
-    // Hands a keeper what another one sends it, which it may turn away.
-    pub fn mail(&mut self, from: u8, to: u8, bytes: &[u8]) -> Option<Refusal> {
+    // Hands a keeper what another one sends it. If it is turned away, all seats stay as they were.
+    pub fn mail(&mut self, from: u8, to: u8, bytes: &[u8]) -> Option<Refusal>
+        ensures { OnSome result (self.new.seats.items ≡ self.old.seats.items) }
+    {
         let seat = self.seats.get_mut(usize::from(to))?;
         seat.take_mail(from, bytes).err()
     }
@@ -70,30 +71,31 @@ impl Play {
         said
     }
 
-    // Keeper `from` sends keeper `to` what its seat would, if anything.
-    pub fn say(&mut self, heap: Global, from: u8, to: u8) -> Result<Option<Refusal>, AllocError> {
-        let Some(message) = self
-            .seats
-            .get(usize::from(from))
-            .and_then(|seat| seat.mail_to(to))
-        else {
+    // The bytes of what a keeper's seat says, if anything.
+    fn said<F: FnOnce(&Seat) -> Option<Message>>(
+        &self,
+        heap: Global,
+        from: u8,
+        says: F,
+    ) -> Result<Option<Vec<u8>>, AllocError>
+        requires { F.IsAlwaysCallable says }
+    {
+        let Some(message) = self.seats.get(usize::from(from)).and_then(says) else {
             return Ok(None);
         };
-        let bytes = write(heap, &message)?;
-        Ok(self.mail(from, to, bytes.as_slice()))
+        Ok(Some(write(heap, &message)?))
+    }
+
+    // Keeper `from` sends keeper `to` what its seat would, if anything.
+    pub fn say(&mut self, heap: Global, from: u8, to: u8) -> Result<Option<Refusal>, AllocError> {
+        let bytes = self.said(heap, from, |seat| seat.mail_to(to))?;
+        Ok(bytes.and_then(|bytes| self.mail(from, to, bytes.as_slice())))
     }
 
     // A keeper puts on the board what its seat would about keeper k, if anything.
     fn line(&mut self, heap: Global, from: u8, k: u8) -> Result<Option<Refusal>, AllocError> {
-        let Some(message) = self
-            .seats
-            .get(usize::from(from))
-            .and_then(|seat| seat.line(k))
-        else {
-            return Ok(None);
-        };
-        let bytes = write(heap, &message)?;
-        Ok(self.board(from, bytes.as_slice()))
+        let bytes = self.said(heap, from, |seat| seat.line(k))?;
+        Ok(bytes.and_then(|bytes| self.board(from, bytes.as_slice())))
     }
 
     // A keeper sends all mail that its seat would.

@@ -1,5 +1,5 @@
 // The coefficients of a polynomial F(x, y) as they are written: for each power of x a row of coefficients in y.
-ghost use Rattle.std.specs.Prelude.{◌≡◌, ◌≤◌, IfOk};
+ghost use Rattle.std.specs.Prelude.{◌≤◌, IfOk};
 
 use crate::expected::Expected;
 use crate::failure::Failure;
@@ -8,10 +8,9 @@ use crate::words::Words;
 use field::Element;
 use polynomial::{Bivariate, Shape};
 use std::alloc::Global;
-use std::fmt;
 
 // One or more rows of one length, each with a number.
-#[derive(Clone, Drop)]
+#[derive(Drop)]
 pub struct Rows(Vec<Vec<Element>>);
 
 impl Rows {
@@ -67,36 +66,4 @@ fn coefficient(word: &str) -> Result<Element, Expected> {
     number
         .and_then(|number: u64| Element::try_from(number).ok())
         .ok_or(Expected::Small)
-}
-
-// Numbers with blanks between them.
-#[derive(Clone, Copy)]
-pub struct Listed<'a>(pub &'a [Element]);
-
-impl fmt::Display for Listed<'_> {
-    fn fmt<W: fmt::Write>(&self, f: &mut fmt::Formatter<W>) -> fmt::Result {
-        if self.0.is_empty() {
-            return f.write_str("-");
-        }
-        for (i, element) in self.0.iter().enumerate() {
-            if i > 0 {
-                f.write_str(" ")?;
-            }
-            write!(f, "{element}")?;
-        }
-        Ok(())
-    }
-}
-
-impl fmt::Display for Rows {
-    fn fmt<W: fmt::Write>(&self, f: &mut fmt::Formatter<W>) -> fmt::Result {
-        for (i, row) in self.0.iter().enumerate() {
-            if i > 0 {
-                f.write_str(" / ")?;
-            }
-            let row = Listed(row.as_slice());
-            write!(f, "{row}")?;
-        }
-        Ok(())
-    }
 }

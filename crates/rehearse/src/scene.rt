@@ -1,12 +1,11 @@
 // What stands on the stage: the keepers, who of them lies, and a dealing.
-ghost use Rattle.std.specs.Prelude.{◌≡◌, ◌+◌, ◌*◌, ◌≤◌};
-
 use crate::company::Company;
 use crate::draft::Draft;
 use crate::expected::Expected;
 use crate::failure::Failure;
 use crate::play::Play;
 use crate::rows::Rows;
+use crate::script::Step;
 use dealing::Refusal;
 use std::alloc::Global;
 
@@ -15,6 +14,27 @@ pub struct Scene {
     pub company: Company,
     pub liars: Vec<u8>,
     pub play: Option<Play>,
+}
+
+// What a step that is taken gives.
+#[derive(Drop)]
+pub enum Reply {
+    Nothing,
+    // The messages that were turned away.
+    Refused(Vec<Refusal>),
+    // What stands is to be shown.
+    Show,
+}
+
+impl Reply {
+    // What became of one message.
+    fn one(heap: Global, refused: Option<Refusal>) -> Result<Reply, Failure> {
+        let mut all = Vec::new(heap);
+        if let Some(refusal) = refused {
+            all.push(refusal)?;
+        }
+        Ok(Reply::Refused(all))
+    }
 }
 
 impl Scene {
@@ -27,32 +47,48 @@ impl Scene {
         }
     }
 
+    // Takes a step. One that fails may be half done, so the stage has a copy take it.
+    pub fn take(&mut self, heap: Global, step: Step) -> Result<Reply, Failure> {
+        match step {
+            Step::Liar(named) => self.liar(named.as_slice()),
+            Step::Deal { dealer, rows } => self.deal(heap, dealer, rows),
+            Step::Round => self.round(heap),
+            Step::Say { from, to } => self.say(heap, from, to),
+            Step::Post { from } => self.post(heap, from),
+            Step::Send { from, to, draft } => self.send(heap, from, to, draft),
+            Step::Board { from, draft } => self.board(heap, from, draft),
+            Step::Show => Ok(Reply::Show),
+        }
+    }
+
     // The keepers named lie from now on.
-    pub fn liar(&mut self, named: &[u8]) -> Result<(), Failure> {
+    fn liar(&mut self, named: &[u8]) -> Result<Reply, Failure> {
         for keeper in named {
             self.company.keeper(*keeper)?;
         }
         if self.play.is_some() {
             return Err(Expected::NoDealing.into());
         }
-        Ok(self.liars.extend_from_slice(named)?)
+        self.liars.extend_from_slice(named)?;
+        Ok(Reply::Nothing)
     }
 
     // A keeper deals; an earlier dealing is gone.
-    pub fn deal(&mut self, heap: Global, dealer: u8, rows: Rows) -> Result<(), Failure> {
+    fn deal(&mut self, heap: Global, dealer: u8, rows: Rows) -> Result<Reply, Failure> {
         let dealer = self.company.keeper(dealer)?;
         let polynomial = rows.polynomial(heap, usize::from(self.company.f()) + 1)?;
-        self.play = Some(Play::new(heap, self.company, dealer, polynomial, rows)?);
-        Ok(())
+        self.play = Some(Play::new(heap, self.company, dealer, polynomial)?);
+        Ok(Reply::Nothing)
     }
 
     // The next round is called, and whoever keeps the rules speaks: first the mail, then the lines of the board.
-    pub fn round(&mut self, heap: Global) -> Result<(), Failure> {
+    fn round(&mut self, heap: Global) -> Result<Reply, Failure> {
         let play = self.play.as_mut().ok_or(Expected::Dealing)?;
         if play.is_decided() {
             return Err(Expected::Undecided.into());
         }
         play.call();
+        // Twice over the keepers: all mail comes before any line.
         for from in 0..=self.company.last() {
             if !self.liars.contains(&from) {
                 play.say_all(heap, from)?;
@@ -63,7 +99,7 @@ impl Scene {
                 play.post(heap, from)?;
             }
         }
-        Ok(())
+        Ok(Reply::Nothing)
     }
 
     // The dealing, for a keeper that lies.
@@ -76,43 +112,33 @@ impl Scene {
     }
 
     // A liar sends what its seat would.
-    pub fn say(&mut self, heap: Global, from: u8, to: u8) -> Result<Option<Refusal>, Failure> {
+    fn say(&mut self, heap: Global, from: u8, to: u8) -> Result<Reply, Failure> {
         let from = self.company.keeper(from)?;
         let to = self.company.keeper(to)?;
-        Ok(self.dealing_for(from)?.say(heap, from, to)?)
+        let refused = self.dealing_for(from)?.say(heap, from, to)?;
+        Reply::one(heap, refused)
     }
 
     // A liar puts on the board what its seat would.
-    pub fn post(&mut self, heap: Global, from: u8) -> Result<Vec<Refusal>, Failure> {
+    fn post(&mut self, heap: Global, from: u8) -> Result<Reply, Failure> {
         let from = self.company.keeper(from)?;
-        Ok(self.dealing_for(from)?.post(heap, from)?)
+        Ok(Reply::Refused(self.dealing_for(from)?.post(heap, from)?))
     }
 
     // A keeper, or somebody in its name, sends a message.
-    pub fn send(
-        &mut self,
-        heap: Global,
-        from: u8,
-        to: u8,
-        draft: Draft,
-    ) -> Result<Option<Refusal>, Failure> {
+    fn send(&mut self, heap: Global, from: u8, to: u8, draft: Draft) -> Result<Reply, Failure> {
         let from = self.company.keeper(from)?;
         let to = self.company.keeper(to)?;
         let play = self.play.as_mut().ok_or(Expected::Dealing)?;
         let bytes = draft.bytes(heap, play.dealer)?;
-        Ok(play.mail(from, to, bytes.as_slice()))
+        Reply::one(heap, play.mail(from, to, bytes.as_slice()))
     }
 
     // A keeper, or somebody in its name, puts a line on the board.
-    pub fn board(
-        &mut self,
-        heap: Global,
-        from: u8,
-        draft: Draft,
-    ) -> Result<Option<Refusal>, Failure> {
+    fn board(&mut self, heap: Global, from: u8, draft: Draft) -> Result<Reply, Failure> {
         let from = self.company.keeper(from)?;
         let play = self.play.as_mut().ok_or(Expected::Dealing)?;
         let bytes = draft.bytes(heap, play.dealer)?;
-        Ok(play.board(from, bytes.as_slice()))
+        Reply::one(heap, play.board(from, bytes.as_slice()))
     }
 }

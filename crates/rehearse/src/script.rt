@@ -15,7 +15,7 @@ pub enum Command {
     Step(Step),
 }
 
-// What needs keepers.
+// What needs keepers. `from` and `to` are no struct: each is tested alone.
 #[derive(Drop)]
 pub enum Step {
     Liar(Vec<u8>),
@@ -63,17 +63,19 @@ fn parse_step(heap: Global, first: &str, words: Words<'_>) -> Result<Step, Failu
 }
 
 // A line of one word.
-fn alone(mut words: Words<'_>, step: Step) -> Result<Step, Failure> {
+fn alone(words: Words<'_>, step: Step) -> Result<Step, Failure> {
     words.end()?;
     Ok(step)
 }
 
 // `liar I ..`
-fn liar(heap: Global, mut words: Words<'_>) -> Result<Step, Failure> {
+fn liar(heap: Global, words: Words<'_>) -> Result<Step, Failure> {
     let mut named = Vec::new(heap);
-    named.push(words.keeper()?)?;
     for word in words {
         named.push(words::keeper(word)?)?;
+    }
+    if named.is_empty() {
+        return Err(Expected::Named.into());
     }
     Ok(Step::Liar(named))
 }

@@ -1,24 +1,14 @@
 // What is shown.
 use crate::play::Play;
-use crate::rows::Listed;
 use crate::scene::Scene;
 use crate::stage::Stage;
-use dealing::{Board, Refusal, Round, Seat};
+use dealing::{Board, Round, Seat};
 use polynomial::Share;
 use std::fmt;
 
-// The two sides of a share.
-fn show_share<W: fmt::Write>(f: &mut fmt::Formatter<W>, share: &Share) -> fmt::Result {
-    let across = Listed(share.across.as_slice());
-    let down = Listed(share.down.as_slice());
-    write!(f, "across {across}, down {down}")
-}
-
 // A share and the value that it gives.
 fn show_value<W: fmt::Write>(f: &mut fmt::Formatter<W>, keeper: u8, share: &Share) -> fmt::Result {
-    write!(f, "keeper {keeper}: ")?;
-    show_share(f, share)?;
-    writeln!(f, ", value {}", share.value())
+    writeln!(f, "keeper {keeper}: {share}, value {}", share.value())
 }
 
 // What a keeper keeps in the end.
@@ -34,11 +24,7 @@ fn show_complaints<W: fmt::Write>(f: &mut fmt::Formatter<W>, board: &Board) -> f
     for (by, complaints) in board.complaints.iter().enumerate() {
         for (about, complaint) in complaints.iter().enumerate() {
             if let Some(pair) = complaint {
-                writeln!(
-                    f,
-                    "complaint {by} about {about}: across {}, down {}",
-                    pair.across, pair.down
-                )?;
+                writeln!(f, "complaint {by} about {about}: {pair}")?;
             }
         }
     }
@@ -48,9 +34,7 @@ fn show_complaints<W: fmt::Write>(f: &mut fmt::Formatter<W>, board: &Board) -> f
 fn show_reveals<W: fmt::Write>(f: &mut fmt::Formatter<W>, board: &Board) -> fmt::Result {
     for (k, reveal) in board.reveals.iter().enumerate() {
         if let Some(share) = reveal {
-            write!(f, "reveal {k}: ")?;
-            show_share(f, share)?;
-            f.write_str("\n")?;
+            writeln!(f, "reveal {k}: {share}")?;
         }
     }
     Ok(())
@@ -111,9 +95,9 @@ impl Play {
             return Ok(());
         };
         let dealer = self.dealer;
-        let rows = &self.rows;
+        let polynomial = &self.polynomial;
         let round = u8::from(first.round);
-        writeln!(f, "dealer {dealer} dealt {rows}\nround {round}")?;
+        writeln!(f, "dealer {dealer} dealt {polynomial}\nround {round}")?;
         for seat in self.seats.iter() {
             let keeper = seat.terms.me;
             if liars.contains(&keeper) {

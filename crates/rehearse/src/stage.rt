@@ -3,30 +3,14 @@ ghost use Rattle.std.specs.Prelude.{◌≡◌, OnErr};
 
 use crate::expected::Expected;
 use crate::failure::Failure;
-use crate::scene::Scene;
+use crate::scene::{Reply, Scene};
 use crate::script::{Command, Step};
-use dealing::Refusal;
-use std::alloc::{AllocError, Global};
+use std::alloc::Global;
 
 // Empty until f is given.
 #[derive(Drop)]
 pub struct Stage {
     pub scene: Option<Scene>,
-}
-
-// What a command that is carried out gives.
-#[derive(Drop)]
-pub enum Reply {
-    Nothing,
-    // The messages that were turned away.
-    Refused(Vec<Refusal>),
-    // What stands is to be shown.
-    Show,
-}
-
-// What was made of one message.
-fn one(heap: Global, refused: Option<Refusal>) -> Result<Reply, AllocError> {
-    Ok(Reply::Refused(refused.into_iter().collect(heap)?))
 }
 
 impl Stage {
@@ -52,26 +36,8 @@ impl Stage {
         ensures same { OnErr result (self.new ≡ self.old) }
     {
         let mut scene = self.scene.as_ref().ok_or(Expected::FGiven)?.clone()?;
-        let reply = scene.play(heap, step)?;
+        let reply = scene.take(heap, step)?;
         self.scene = Some(scene);
         Ok(reply)
-    }
-}
-
-impl Scene {
-    fn play(&mut self, heap: Global, step: Step) -> Result<Reply, Failure> {
-        match step {
-            Step::Liar(named) => self.liar(named.as_slice())?,
-            Step::Deal { dealer, rows } => self.deal(heap, dealer, rows)?,
-            Step::Round => self.round(heap)?,
-            Step::Say { from, to } => return Ok(one(heap, self.say(heap, from, to)?)?),
-            Step::Post { from } => return Ok(Reply::Refused(self.post(heap, from)?)),
-            Step::Send { from, to, draft } => {
-                return Ok(one(heap, self.send(heap, from, to, draft)?)?);
-            }
-            Step::Board { from, draft } => return Ok(one(heap, self.board(heap, from, draft)?)?),
-            Step::Show => return Ok(Reply::Show),
-        }
-        Ok(Reply::Nothing)
     }
 }

@@ -54,6 +54,17 @@ impl<'a> Words<'a> {
         number(self.next().ok_or(Expected::Number)?)
     }
 
+    // The number behind this word, if the word comes next.
+    pub fn number_after<T: FromStr>(&mut self, word: &str) -> Result<Option<T>, Expected>
+    where
+        T::Err: Drop,
+    {
+        if !self.pass(word) {
+            return Ok(None);
+        }
+        Ok(Some(self.number()?))
+    }
+
     // Goes past the next word, if it is this one.
     pub fn pass(&mut self, word: &str) -> bool {
         let mut ahead = *self;
@@ -81,7 +92,7 @@ where
     digits(word)?.parse().map_err(|_| Expected::Fitting)
 }
 
-// The number that a word writes, or the largest where that is too large.
+// The number that a word writes, or the largest where that is too large: no company has such a keeper, and who names it is told which there are.
 pub fn keeper(word: &str) -> Result<u8, Expected> {
     Ok(digits(word)?.parse().unwrap_or(u8::MAX))
 }
