@@ -168,7 +168,7 @@ impl<'a> Body<'a> {
     }
 }
 
-// `hex DIGITS`
+// `hex DIGITS`. Digit by digit: what `hex::decode` says of a lack of memory is no AllocError.
 fn hex(heap: Global, mut words: Words<'_>) -> Result<Vec<u8>, Failure> {
     let digits = words.next().ok_or(Expected::Hex)?;
     let mut out = Vec::new(heap);
