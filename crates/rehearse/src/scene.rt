@@ -130,20 +130,25 @@ impl Scene {
         Ok(Reply::Refused(self.dealing_for(from)?.post(heap, from)?))
     }
 
+    // The dealing, and the bytes of a draft in it.
+    fn drafted(&mut self, heap: Global, draft: Draft) -> Result<(&mut Play, Vec<u8>), Failure> {
+        let play = self.dealing()?;
+        let bytes = draft.bytes(heap, play.dealer)?;
+        Ok((play, bytes))
+    }
+
     // A keeper, or somebody in its name, sends a message.
     fn send(&mut self, heap: Global, from: u8, to: u8, draft: Draft) -> Result<Reply, Failure> {
         let from = self.company.keeper(from)?;
         let to = self.company.keeper(to)?;
-        let play = self.dealing()?;
-        let bytes = draft.bytes(heap, play.dealer)?;
+        let (play, bytes) = self.drafted(heap, draft)?;
         Reply::one(heap, play.mail(from, to, bytes.as_slice()))
     }
 
     // A keeper, or somebody in its name, puts a line on the board.
     fn board(&mut self, heap: Global, from: u8, draft: Draft) -> Result<Reply, Failure> {
         let from = self.company.keeper(from)?;
-        let play = self.dealing()?;
-        let bytes = draft.bytes(heap, play.dealer)?;
+        let (play, bytes) = self.drafted(heap, draft)?;
         Reply::one(heap, play.board(from, bytes.as_slice()))
     }
 }
