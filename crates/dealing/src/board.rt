@@ -11,7 +11,7 @@ ghost use Rattle.rules.specs.Seat.{accepted};
 ghost use Rattle.std.specs.Option.{option_map};
 
 use crate::places::{at, put};
-use crate::types::{Board, Seat};
+use crate::types::{Board, Seat, Terms};
 use polynomial::{Pair, Share};
 
 impl Board {
@@ -62,6 +62,22 @@ impl Board {
         ensures { posts_of self.new ≡ posted_it (posts_of self.old) i (Fine fine) }
     {
         put(&mut self.fines, usize::from(i), fine);
+    }
+
+    // How many have said that all fits.
+    fn fines(&self, terms: &Terms) -> usize
+        ensures { result ≡ count (keepers (setting_of terms.now)) (λ i. or_else false (said_fine (posts_of self.now) i)) }
+    {
+        (0..terms.keepers())
+            .filter(|i| self.said_fine(*i).unwrap_or(false))
+            .count()
+    }
+
+    // Is the dealing accepted?
+    pub fn accepted(&self, terms: &Terms) -> bool
+        ensures { result ≡ accepted (setting_of terms.now) (posts_of self.now) }
+    {
+        self.fines(terms) >= 2 * usize::from(terms.f) + 1
     }
 
     // Do two keepers that complain about each other say the same, or is one revealed?
@@ -142,19 +158,10 @@ impl Seat {
             && self.all_settled()
     }
 
-    // How many have said that all fits.
-    fn fines(&self) -> usize
-        ensures { result ≡ count (keepers (setting_of self.now.terms)) (λ i. or_else false (said_fine (posts_of self.now.board) i)) }
-    {
-        (0..self.terms.keepers())
-            .filter(|i| self.board.said_fine(*i).unwrap_or(false))
-            .count()
-    }
-
     // Is the dealing accepted?
     pub fn accepted(&self) -> bool
         ensures { result ≡ accepted (setting_of self.now.terms) (posts_of self.now.board) }
     {
-        self.fines() >= 2 * usize::from(self.terms.f) + 1
+        self.board.accepted(&self.terms)
     }
 }

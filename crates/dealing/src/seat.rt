@@ -64,6 +64,7 @@ impl Seat {
         }
     }
 
+    // By whom and about whom, as in the message.
     fn post_complaint(
         &mut self,
         who: u8,
@@ -223,7 +224,7 @@ impl Seat {
         self.hear(from, message)
     }
 
-    // Takes a line of the board that keeper `who` put there, or passes it over.
+    // Takes a line of the board that keeper `who` put there, or passes it over. Beside `take_mail`: two lines each, and another contract.
     pub fn take_board(&mut self, who: u8, bytes: &[u8]) -> Result<(), Refusal>
         ensures ruled { Answered self.old (board_bytes (terms_of self.old.terms) (state_of self.old) who bytes.now) self.new result }
         ensures refused { OnErr result (self.new ≡ self.old) }

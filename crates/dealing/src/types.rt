@@ -58,7 +58,7 @@ pub struct Hand {
     pub told: [Option<Pair>; 16],
 }
 
-// What stands on the board: complaints by and about each keeper, the shares that were revealed, and who said whether all fits. Sixteen places each, as in a hand.
+// What stands on the board: complaints by and about each keeper, the shares that were revealed, and who said whether all fits. Sixteen places each, as in a hand; three tables, as the rules have them.
 #[derive(Clone, Copy)]
 pub struct Board {
     pub complaints: [[Option<Pair>; 16]; 16],

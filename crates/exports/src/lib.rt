@@ -1,4 +1,4 @@
-// The field and its polynomials for callers in C and Rust. Numbers come as plain words; where one of them is not below P the answer is u64::MAX, which is no number of the field: C has no Result.
+// The field and its polynomials for callers in C and Rust. Numbers come as plain words; where one of them is not below P the answer is u64::MAX, which is no number of the field: C has no Result, and no type for a word below P, so each clause says which words are in range.
 #![tactic(auto)]
 
 ghost use Rattle.std.specs.Prelude.{◌≡◌, ℕ, ◌-◌, ◌*◌, ◌%◌, ◌^◌, ◌<◌, ◌≤◌, [], ◌∷◌, MatchResult};

@@ -3,7 +3,7 @@ use crate::types::{Body, Malformed};
 
 #[derive(Clone, Copy, Debug, PartialEq, Eq)]
 pub enum Kind {
-    Share,
+    Share = 1,
     Told,
     Complaint,
     Reveal,
@@ -38,15 +38,7 @@ impl From<Kind> for u8 {
     ghost from_gives = { λ kind byte. byte ≡ byte_of kind };
 
     fn from(kind: Kind) -> u8 {
-        match kind {
-            Kind::Share => 1,
-            Kind::Told => 2,
-            Kind::Complaint => 3,
-            Kind::Reveal => 4,
-            Kind::Fine => 5,
-            Kind::Finished => 6,
-            Kind::Value => 7,
-        }
+        kind as u8
     }
 }
 

@@ -73,7 +73,7 @@ impl Frame<'_> {
         requires { (place + 8 * count ≤ length self.now.bytes.now) × (count ≤ 6) }
         ensures { Gives coeffs result (small (row_at self.now.bytes.now place count)) (row_at self.now.bytes.now place count) }
     {
-        // Part of an array of six, and no Vec: reading can't run out of memory.
+        // Part of an array of six, and no Vec: reading can't run out of memory. By place: after a `zip` of `iter_mut` nothing is known of what was written.
         let mut numbers = [Element::zero(); 6];
         let row = &mut numbers[..count];
         for (k, number) in row.iter_mut().enumerate() {

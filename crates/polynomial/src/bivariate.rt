@@ -53,7 +53,7 @@ impl Bivariate {
             return None;
         }
         let mut rows = [Polynomial::zero(); 6];
-        // By the number of the row, and not by `chunks_exact(low)`: it takes no 0, and `low` may be 0.
+        // By the number of the row: after a `zip` of `iter_mut` with the chunks nothing is known of the rows; and `chunks_exact` takes no 0, which `low` may be.
         for i in 0..shape.high {
             rows[i] = Polynomial::from_slice(&cs[i * shape.low..(i + 1) * shape.low])?;
         }
@@ -109,7 +109,7 @@ impl Bivariate {
     }
 }
 
-// Its rows, with slashes between them.
+// Its rows, with slashes between them. Written out, as for a polynomial: one function for both would have to be told what its parts print.
 impl fmt::Display for Bivariate {
     ghost output = { λ f. Some (shown_rows (rows_of f)) };
 

@@ -29,7 +29,7 @@ impl Polynomial {
         Polynomial::zeros(0)
     }
 
-    // As many zeros.
+    // As many zeros. That they are at most six is asked and said again, here and below: a caller reads a clause.
     pub(crate) fn zeros(len: usize) -> Polynomial
         requires { len ≤ 6 }
         ensures { (coeffs result ≡ replicate len 0) × ((numbers result.coefficients ≡ replicate 6 0) × (result.len ≡ len)) }

@@ -71,6 +71,13 @@ fn kind_of(word: &str) -> Option<Kind> {
     }
 }
 
+// What ends the numbers of a side.
+#[derive(Clone, Copy, PartialEq, Eq)]
+enum End {
+    Slash,
+    Line,
+}
+
 // What follows the night and the dealer: the words that are left to read, and the bytes that the others write.
 #[derive(Drop)]
 struct Body<'a> {
@@ -139,19 +146,19 @@ impl<'a> Body<'a> {
 
     // `A .. / D ..`
     fn sides(&mut self) -> Result<(), Failure> {
-        if !self.side()? || self.side()? {
+        if self.side()? != End::Slash || self.side()? != End::Line {
             return Err(Expected::Slash.into());
         }
         Ok(())
     }
 
-    // At most twelve numbers; whether a slash follows.
-    fn side(&mut self) -> Result<bool, Failure> {
+    // At most twelve numbers, and what ends them.
+    fn side(&mut self) -> Result<End, Failure> {
         for _ in 0..=12 {
             match self.words.next() {
-                Some("/") => return Ok(true),
+                Some("/") => return Ok(End::Slash),
                 Some(word) => self.put(words::number(word)?)?,
-                None => return Ok(false),
+                None => return Ok(End::Line),
             }
         }
         Err(Expected::FewNumbers.into())
@@ -168,7 +175,7 @@ impl<'a> Body<'a> {
     }
 }
 
-// `hex DIGITS`
+// `hex DIGITS`. Digit by digit: what `hex::decode` says of a lack of memory is no AllocError.
 fn hex(heap: Global, mut words: Words<'_>) -> Result<Vec<u8>, Failure> {
     let digits = words.next().ok_or(Expected::Hex)?;
     let mut out = Vec::new(heap);

@@ -80,10 +80,8 @@ impl Play {
     ) -> Result<Option<Vec<u8>>, AllocError>
         requires { F.IsAlwaysCallable says }
     {
-        let Some(message) = self.seats.get(usize::from(from)).and_then(says) else {
-            return Ok(None);
-        };
-        Ok(Some(write(heap, &message)?))
+        let message = self.seats.get(usize::from(from)).and_then(says);
+        message.map(|message| write(heap, &message)).transpose()
     }
 
     // Keeper `from` sends keeper `to` what its seat would, if anything.

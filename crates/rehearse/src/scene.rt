@@ -30,9 +30,7 @@ impl Reply {
     // What became of one message.
     fn one(heap: Global, refused: Option<Refusal>) -> Result<Reply, Failure> {
         let mut all = Vec::new(heap);
-        if let Some(refusal) = refused {
-            all.push(refusal)?;
-        }
+        all.extend(refused)?;
         Ok(Reply::Refused(all))
     }
 }
@@ -69,7 +67,11 @@ impl Scene {
         if self.play.is_some() {
             return Err(Expected::NoDealing.into());
         }
-        self.liars.extend_from_slice(named)?;
+        for keeper in named {
+            if !self.liars.contains(keeper) {
+                self.liars.push(*keeper)?;
+            }
+        }
         Ok(Reply::Nothing)
     }
 
@@ -102,13 +104,16 @@ impl Scene {
         Ok(Reply::Nothing)
     }
 
-    // The dealing, for a keeper that lies.
-    fn dealing_for(&mut self, keeper: u8) -> Result<&mut Play, Expected> {
-        let play = self.play.as_mut().ok_or(Expected::Dealing)?;
-        if !self.liars.contains(&keeper) {
-            return Err(Expected::Liar);
-        }
-        Ok(play)
+    // The dealing that is played.
+    fn dealing(&mut self) -> Result<&mut Play, Expected> {
+        self.play.as_mut().ok_or(Expected::Dealing)
+    }
+
+    // The same, for a keeper that lies.
+    fn dealing_for(&mut self, liar: u8) -> Result<&mut Play, Expected> {
+        let lies = self.liars.contains(&liar);
+        self.dealing()
+            .and_then(|play| if lies { Ok(play) } else { Err(Expected::Liar) })
     }
 
     // A liar sends what its seat would.
@@ -125,20 +130,25 @@ impl Scene {
         Ok(Reply::Refused(self.dealing_for(from)?.post(heap, from)?))
     }
 
+    // The dealing, and the bytes of a draft in it.
+    fn drafted(&mut self, heap: Global, draft: Draft) -> Result<(&mut Play, Vec<u8>), Failure> {
+        let play = self.dealing()?;
+        let bytes = draft.bytes(heap, play.dealer)?;
+        Ok((play, bytes))
+    }
+
     // A keeper, or somebody in its name, sends a message.
     fn send(&mut self, heap: Global, from: u8, to: u8, draft: Draft) -> Result<Reply, Failure> {
         let from = self.company.keeper(from)?;
         let to = self.company.keeper(to)?;
-        let play = self.play.as_mut().ok_or(Expected::Dealing)?;
-        let bytes = draft.bytes(heap, play.dealer)?;
+        let (play, bytes) = self.drafted(heap, draft)?;
         Reply::one(heap, play.mail(from, to, bytes.as_slice()))
     }
 
     // A keeper, or somebody in its name, puts a line on the board.
     fn board(&mut self, heap: Global, from: u8, draft: Draft) -> Result<Reply, Failure> {
         let from = self.company.keeper(from)?;
-        let play = self.play.as_mut().ok_or(Expected::Dealing)?;
-        let bytes = draft.bytes(heap, play.dealer)?;
+        let (play, bytes) = self.drafted(heap, draft)?;
         Reply::one(heap, play.board(from, bytes.as_slice()))
     }
 }

@@ -59,10 +59,7 @@ impl<'a> Words<'a> {
     where
         T::Err: Drop,
     {
-        if !self.pass(word) {
-            return Ok(None);
-        }
-        Ok(Some(self.number()?))
+        self.pass(word).then(|| self.number()).transpose()
     }
 
     // Goes past the next word, if it is this one.

@@ -3,4 +3,4 @@ use Rattle.dealing.proofs.Loops.{any_keeper}
 use Rattle.dealing.proofs.types.Seat.complained.Goals as goal
 
 pub returns : goal.returns
-returns c = any_keeper _ _ _ _ _ _ _ c.any.ensures.ran c.keepers.ensures.0 (λ x b q k. search (rules, tests))
+returns c = any_keeper c.any.ensures.ran c.keepers.ensures.0 (λ x b q k. search (rules, tests))

@@ -1,6 +1,0 @@
-use Rattle.std.proofs.Common.{rules, tests}
-use Rattle.dealing.proofs.Loops.{so_many}
-use Rattle.dealing.proofs.types.Seat.fines.Goals as goal
-
-pub returns : goal.returns
-returns c = so_many _ _ _ _ _ _ _ c.count.ensures.ran c.filter.ensures.source c.filter.ensures.closure c.keepers.ensures.0 (λ x b q k. search (rules, tests))
