@@ -1,5 +1,5 @@
 // A dealing that is played: one seat for each keeper, and all that crosses between them as bytes.
-ghost use Rattle.std.specs.Prelude.{◌≡◌, ◌+◌, ◌*◌, ◌≤◌, ◌↔◌, All, IsTrue, OnSome};
+ghost use Rattle.std.specs.Prelude.{◌≡◌, ◌+◌, ◌*◌, ◌≤◌, ◌↔◌, All, IfOk, IsTrue, OnSome};
 ghost use Rattle.dealing.specs.declared.types.Round.TheVariants.{Decided};
 
 use crate::company::Company;
@@ -26,6 +26,7 @@ impl Play {
         polynomial: Bivariate,
     ) -> Result<Play, AllocError>
         requires { (dealer ≤ 3 * company.f) × ((polynomial.shape.high ≤ company.f + 1) × (polynomial.shape.low ≤ company.f + 1)) }
+        ensures { IfOk result (λ play. (play.company ≡ company) × (play.dealer ≡ dealer) × (play.polynomial ≡ polynomial)) }
     {
         let mut seats = Vec::new(heap);
         for me in 0..=company.last() {

@@ -1,4 +1,6 @@
 // What stands on the stage: the keepers, who of them lies, and a dealing.
+ghost use Rattle.std.specs.Prelude.{◌≡◌, [], None};
+
 use crate::company::Company;
 use crate::draft::Draft;
 use crate::expected::Expected;
@@ -37,7 +39,11 @@ impl Reply {
 
 impl Scene {
     // All keep the rules, and nothing is dealt.
-    pub fn new(heap: Global, company: Company) -> Scene {
+    pub fn new(heap: Global, company: Company) -> Scene
+        ensures company { result.company ≡ company }
+        ensures honest { result.liars.items ≡ [] }
+        ensures undealt { result.play ≡ None }
+    {
         Scene {
             company,
             liars: Vec::new(heap),

@@ -1,5 +1,5 @@
 // The stage that a script plays on.
-ghost use Rattle.std.specs.Prelude.{◌≡◌, OnErr};
+ghost use Rattle.std.specs.Prelude.{◌≡◌, None, OnErr};
 
 use crate::expected::Expected;
 use crate::failure::Failure;
@@ -14,7 +14,9 @@ pub struct Stage {
 }
 
 impl Stage {
-    pub fn new() -> Stage {
+    pub fn new() -> Stage
+        ensures { result.scene ≡ None }
+    {
         Stage { scene: None }
     }
 
