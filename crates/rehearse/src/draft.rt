@@ -5,6 +5,7 @@ use crate::words;
 use crate::words::Words;
 use message::Kind;
 use std::alloc::{AllocError, Global};
+use std::str::FromStr;
 
 #[derive(Drop)]
 pub enum Draft {
@@ -24,8 +25,8 @@ impl Draft {
         if words.pass("hex") {
             return Ok(Draft::Bytes(hex(heap, words)?));
         }
-        let night = words.number_after("night")?.unwrap_or(0);
-        let dealer = words.number_after("dealer")?;
+        let night = number_after(&mut words, "night")?.unwrap_or(0);
+        let dealer = number_after(&mut words, "dealer")?;
         let kind = words.next().and_then(kind_of).ok_or(Expected::Message)?;
         let body = Body::read(heap, kind, words)?;
         Ok(Draft::Message {
@@ -55,6 +56,14 @@ impl Draft {
             }
         }
     }
+}
+
+// The number behind this word, if the word comes next.
+fn number_after<T: FromStr>(words: &mut Words<'_>, word: &str) -> Result<Option<T>, Expected>
+where
+    T::Err: Drop,
+{
+    words.pass(word).then(|| words.number()).transpose()
 }
 
 // The kind of message that a word names.

@@ -62,8 +62,9 @@ impl Rows {
 
 // A number of the field.
 fn coefficient(word: &str) -> Result<Element, Expected> {
-    let number = words::digits(word)?.parse().ok();
-    number
-        .and_then(|number: u64| Element::try_from(number).ok())
-        .ok_or(Expected::Small)
+    let number: u64 = words::number(word).map_err(|expected| match expected {
+        Expected::Fitting => Expected::Small,
+        expected => expected,
+    })?;
+    Element::try_from(number).map_err(|_| Expected::Small)
 }

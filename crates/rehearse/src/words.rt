@@ -54,14 +54,6 @@ impl<'a> Words<'a> {
         number(self.next().ok_or(Expected::Number)?)
     }
 
-    // The number behind this word, if the word comes next.
-    pub fn number_after<T: FromStr>(&mut self, word: &str) -> Result<Option<T>, Expected>
-    where
-        T::Err: Drop,
-    {
-        self.pass(word).then(|| self.number()).transpose()
-    }
-
     // Goes past the next word, if it is this one.
     pub fn pass(&mut self, word: &str) -> bool {
         let mut ahead = *self;
@@ -74,7 +66,7 @@ impl<'a> Words<'a> {
 }
 
 // A word of digits.
-pub fn digits(word: &str) -> Result<&str, Expected> {
+fn digits(word: &str) -> Result<&str, Expected> {
     if !word.bytes().all(|byte| byte.is_ascii_digit()) {
         return Err(Expected::Digits);
     }
