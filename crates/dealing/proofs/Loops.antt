@@ -1,20 +1,15 @@
 -- Chains over the keepers: a test that passes for some, for every one, or for so many.
-use Rattle.std.proofs.Common.{◌≡◌, ℕ, zero, suc, Bool, true, false, ◌&&◌, ◌||◌, List, [], ◌∷◌, ◌++◌, length, refl, sym, ◌∙◌, ap, add-one, arith, length-append}
+use Rattle.std.proofs.Common.{◌≡◌, ℕ, zero, suc, ◌+◌, ◌≤◌, Bool, true, false, ◌&&◌, ◌||◌, cond, [], ◌∷◌, ◌++◌, refl, sym, ◌∙◌, ap, add-one, arith}
 use mathlib.Core.List.{map-id}
 use denote.Param.Members.{Mut, Called}
-use denote.Ref.{Bor}
-use Rattle.std.specs.Fn.{CalledAt}
-use Rattle.std.specs.Iterator.{ChecksAny, ChecksAll, Drains}
-use Rattle.std.specs.Iterator.Adapters.{filter_source, filter_callee, filter_steps}
-use Rattle.std.specs.List.{range_with_len, list_any, list_all, filter}
+use Rattle.std.specs.Iterator.{ChecksAny, ChecksAll}
+use Rattle.std.specs.List.{range_with_len, list_any, list_all}
 use Rattle.std.specs.declared.ops.Range.{Range}
 use Rattle.std.proofs.iter.Yields.{nat_range_steps}
 use Rattle.std.proofs.lemmas.Iterator.{YieldsList-from_range}
 use Rattle.std.proofs.lemmas.Iterator.Search.{any_from_yields_List, all_from_yields_List}
-use Rattle.std.proofs.lemmas.Iterator.Consumers.{YieldsList-from_filter, count_from_yields_List}
 use Rattle.std.proofs.lemmas.List.FromFn.{map-range_with_len_more}
 use Rattle.std.proofs.lemmas.List.Folds.{list_any-append, list_all-append}
-use Rattle.std.proofs.lemmas.List.Elements.{filter-append}
 use Rattle.algebra.specs.Counting.{count}
 use Rattle.rules.specs.Rounds.{any, every}
 
@@ -38,10 +33,27 @@ any_keeper {t = t} {f = f} {n = n} {u = u} {r = r} ran e calls = any_from_yields
 pub each_keeper : {F : Type 0} {g : Mut F (ℕ × Unit {0}) Bool} {t : ℕ → Bool} {f : F} {n m : ℕ} {u : Range ℕ} {r : Bool} → ChecksAll nat_range_steps g (record { start = 0; end = n }) f r u → n ≡ m → ((x : ℕ) (b : Bool) (q : F) → Called g f (x, tt) b q → (q ≡ f) × (b ≡ t x)) → r ≡ every m t
 each_keeper {t = t} {f = f} {n = n} {u = u} {r = r} ran e calls = all_from_yields_List t u f r ran (YieldsList-from_range 0 n n refl (omega arith)) calls ∙ all_list t n ∙ ap (λ k. every k t) e
 
-count_list : (t : ℕ → Bool) (n : ℕ) → length (filter t (range_with_len 0 n)) ≡ count n t
+-- How many of the numbers below n pass: one more, where n does.
+pub count_none : (t : ℕ → Bool) → 0 ≡ count 0 t
 unfolding count
-count_list t zero = refl
-count_list t (suc n) = ap (λ xs. length (filter t xs)) (range_more n) ∙ ap length (filter-append t (range_with_len 0 n) (n ∷ [])) ∙ grind (arith, length-append, count_list t n)
+count_none t = refl
 
-pub so_many : {F : Type 0} {g : Mut F (Bor ℕ × Unit {0}) Bool} {t : ℕ → Bool} {f : F} {n m : ℕ} {s : _} {r : ℕ} → (xs : List ℕ) × Drains (filter_steps nat_range_steps g) s xs × (r ≡ length xs) → filter_source s ≡ record { start = 0; end = n } → filter_callee s ≡ f → n ≡ m → ((x : ℕ) (b : Bool) (q : F) → CalledAt g f x b q → (q ≡ f) × (b ≡ t x)) → r ≡ count m t
-so_many {g = g} {t = t} {n = n} {s = s} {r = r} ran source callee e calls = count_from_yields_List s r ran (YieldsList-from_filter g t (YieldsList-from_range 0 n n source (omega arith)) callee calls) ∙ count_list t n ∙ ap (λ k. count k t) e
+pub count_yes : (n k : ℕ) (t : ℕ → Bool) → k ≡ count n t → t n ≡ true → k + 1 ≡ count (n + 1) t
+unfolding count
+count_yes n k t e y = rw (add-one n, y) (omega arith)
+
+pub count_no : (n k : ℕ) (t : ℕ → Bool) → k ≡ count n t → t n ≡ false → k ≡ count (n + 1) t
+unfolding count
+count_no n k t e y = rw (add-one n, y) (omega arith)
+
+count_le : (n : ℕ) (t : ℕ → Bool) → count n t ≤ n
+unfolding count
+count_le zero t = omega arith
+count_le (suc n) t = by (t n) (count_le n t)
+  where
+    by : (b : Bool) → count n t ≤ n → cond b 1 0 + count n t ≤ suc n
+    by true h = omega arith
+    by false h = omega arith
+
+pub count_bound : (n k : ℕ) (t : ℕ → Bool) → k ≡ count n t → k ≤ n
+count_bound n k t e = omega (arith, count_le n t)

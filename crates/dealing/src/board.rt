@@ -19,9 +19,7 @@ impl Board {
     pub(crate) fn complaint(&self, by: u8, about: u8) -> Option<Pair>
         ensures { option_map said result ≡ complaint (posts_of self.now) by about }
     {
-        self.complaints
-            .get(usize::from(by))
-            .and_then(|row| at(row, usize::from(about)))
+        at(self.complaints.get(usize::from(by))?, usize::from(about))
     }
 
     // The share of a keeper that was revealed.
@@ -44,8 +42,9 @@ impl Board {
         ensures { posts_of self.new ≡ posted_it (posts_of self.old) by (Complaint about (said pair)) }
     {
         let by = usize::from(by);
-        if by < self.complaints.len() {
-            put(&mut self.complaints[by], usize::from(about), pair);
+        let complaints = &mut self.complaints;
+        if by < complaints.len() {
+            put(&mut complaints[by], usize::from(about), pair);
         }
     }
 
@@ -68,9 +67,14 @@ impl Board {
     fn fines(&self, terms: &Terms) -> usize
         ensures { result ≡ count (keepers (setting_of terms.now)) (λ i. or_else false (said_fine (posts_of self.now) i)) }
     {
-        (0..terms.keepers())
-            .filter(|i| self.said_fine(*i).unwrap_or(false))
-            .count()
+        let mut fines = 0;
+        // A `for`: `filter` and `count` take twice the time.
+        for fine in &self.fines[..usize::from(terms.keepers())] {
+            if fine.unwrap_or(false) {
+                fines += 1;
+            }
+        }
+        fines
     }
 
     // Is the dealing accepted?
@@ -85,13 +89,10 @@ impl Board {
         ensures { let q = posts_of self.now in
             result ≡ settles (complaint q a b) (complaint q b a) (revealed q a) (revealed q b) }
     {
-        match (
-            self.complaint(a, b),
-            self.complaint(b, a),
-            self.revealed(a),
-            self.revealed(b),
-        ) {
-            (Some(x), Some(y), None, None) => x == y.swap(),
+        match (self.complaint(a, b), self.complaint(b, a)) {
+            (Some(x), Some(y)) => {
+                x == y.swap() || self.revealed(a).is_some() || self.revealed(b).is_some()
+            }
             _ => true,
         }
     }

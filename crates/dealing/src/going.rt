@@ -4,7 +4,6 @@ ghost use Rattle.dealing.specs.Going.{goes_on};
 ghost use Rattle.polynomial.specs.Lists.{held};
 ghost use Rattle.std.specs.Option.{option_map};
 
-use crate::places::at;
 use polynomial::Share;
 
 // Each keeper goes on with what was revealed of its share, if it was, else with what it has.
@@ -13,6 +12,8 @@ pub fn go_on(revealed: &[Option<Share>], shares: &mut [Option<Share>])
 {
     // By place: after a `zip` of `iter_mut` nothing is known of what was written.
     for (k, share) in shares.iter_mut().enumerate() {
-        *share = at(revealed, k).or(*share);
+        if let Some(Some(shown)) = revealed.get(k) {
+            *share = Some(*shown);
+        }
     }
 }

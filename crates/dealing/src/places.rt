@@ -5,7 +5,7 @@ ghost use Rattle.std.specs.Prelude.{◌≡◌, None, Some, slice_index_or, slice
 pub(crate) fn at<T: Copy>(places: &[Option<T>], k: usize) -> Option<T>
     ensures { result ≡ slice_index_or places.now k None }
 {
-    places.get(k).copied().flatten()
+    *places.get(k)?
 }
 
 // Writes to place k; past the end, nowhere. By index: after a write through `get_mut` nothing is known of the places.

@@ -1,5 +1,5 @@
 // What a keeper holds of a dealing, and what stands on the board about it.
-ghost use Rattle.std.specs.Prelude.{◌+◌, ◌*◌, ◌<◌, ◌≤◌};
+ghost use Rattle.std.specs.Prelude.{◌≡◌, ◌+◌, ◌*◌, ◌<◌, ◌≤◌, length};
 
 use field::Element;
 use polynomial::{Bivariate, Pair, Shape, Share};
@@ -64,6 +64,7 @@ pub struct Board {
     pub complaints: [[Option<Pair>; 16]; 16],
     pub reveals: [Option<Share>; 16],
     pub fines: [Option<bool>; 16],
+    ghost places: { length reveals ≡ 16 },
 }
 
 // One keeper's seat in one dealing.

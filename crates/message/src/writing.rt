@@ -37,31 +37,31 @@ fn put_pair(out: &mut Vec<u8>, pair: Pair) -> Result<(), AllocError>
 pub fn write(heap: Global, message: &Message) -> Result<Vec<u8>, AllocError>
     ensures { IfOk result (λ v. v.items ≡ wire (message_of message.now)) }
 {
-    let Message { head, body } = *message;
+    let Message { head, body } = message;
     let mut out = Vec::new(heap);
     out.push(u8::from(body.kind()))?;
     out.extend_from_slice(&head.night.to_be_bytes())?;
     out.push(head.dealer)?;
     match body {
-        Body::Share(share) => put_share(&mut out, &share)?,
-        Body::Told(pair) => put_pair(&mut out, pair)?,
+        Body::Share(share) => put_share(&mut out, share)?,
+        Body::Told(pair) => put_pair(&mut out, *pair)?,
         Body::Complaint { by, about, pair } => {
-            out.push(by)?;
-            out.push(about)?;
-            put_pair(&mut out, pair)?;
+            out.push(*by)?;
+            out.push(*about)?;
+            put_pair(&mut out, *pair)?;
         }
         Body::Reveal { keeper, share } => {
-            out.push(keeper)?;
-            put_share(&mut out, &share)?;
+            out.push(*keeper)?;
+            put_share(&mut out, share)?;
         }
         Body::Fine { keeper, fine } => {
-            out.push(keeper)?;
-            out.push(u8::from(fine))?;
+            out.push(*keeper)?;
+            out.push(u8::from(*fine))?;
         }
-        Body::Finished { keeper } => out.push(keeper)?,
+        Body::Finished { keeper } => out.push(*keeper)?,
         Body::Value { keeper, value } => {
-            out.push(keeper)?;
-            out.extend_from_slice(&u64::from(value).to_be_bytes())?;
+            out.push(*keeper)?;
+            out.extend_from_slice(&u64::from(*value).to_be_bytes())?;
         }
     }
     Ok(out)

@@ -1,16 +1,16 @@
 -- What is left of a polynomial in two unknowns with one set, row by row.
-use Rattle.std.proofs.Common.{◌≡◌, ℕ, zero, suc, ◌+◌, ◌*◌, ◌<◌, ◌≤◌, List, [], ◌∷◌, map, length, get_or, take, drop, set, sym, refl, ap, ◌∙◌, ◌≢◌, suc-mul, zero-mul, arith, length-set, length-take, length-drop, get_or-set_other}
+use Rattle.std.proofs.Common.{◌≡◌, ℕ, zero, suc, ◌+◌, ◌*◌, ◌<◌, ◌≤◌, List, [], ◌∷◌, ◌++◌, map, length, get_or, take, drop, set, sym, refl, ap, ◌∙◌, ◌≢◌, suc-mul, zero-mul, arith, length-set, length-take, length-drop, get_or-set_other}
 use mathlib.Core.List.{Memᴰ}
 use Rattle.std.proofs.lemmas.Nat.{mul-le}
 use Rattle.std.proofs.lemmas.List.Edits.{fill_by_more}
-use Rattle.std.proofs.lemmas.List.{map-set, length-map, take-map, drop-map, get_or-take, drop-drop, ext_get_or}
+use Rattle.std.proofs.lemmas.List.{map-set, length-map, take-map, take-append-le, drop-map, get_or-take, drop-drop, ext_get_or}
 use Rattle.algebra.specs.Polynomial.{value, plus, times, set_first, set_second, Exact, Exact2}
 use Rattle.algebra.specs.Prime.{p}
 use Rattle.field.specs.declared.element.Element.{Element}
 use Rattle.polynomial.specs.declared.types.Polynomial.{Polynomial}
-use Rattle.polynomial.specs.Numbers.{numbers, Clean, cut}
+use Rattle.polynomial.specs.Numbers.{numbers, cut}
 use Rattle.polynomial.specs.Lists.{coeffs}
-use Rattle.polynomial.proofs.Places.{map_front, length_front}
+use Rattle.polynomial.proofs.Places.{length_front}
 
 -- the rows that count
 abbrev front : ℕ → List Polynomial → List (List ℕ)
@@ -28,17 +28,9 @@ unfolding set_second
 second_map y [] = refl
 second_map y (r ∷ rows) = ap (λ l. value p (coeffs r) y ∷ l) (second_map y rows)
 
-pub across_whole : (n y : ℕ) (rows : List Polynomial) (cs : List Element) → numbers cs ≡ map (λ r. value p (coeffs r) y) rows → numbers (take n cs) ≡ set_second p (front n rows) y
-across_whole n y rows cs e = map_front n (λ r. value p (coeffs r) y) rows cs e ∙ sym (second_map y (take n rows))
-
-pub across_clean : (n y : ℕ) (rows : List Polynomial) (cs : List Element) → ((k : ℕ) → n ≤ k → get_or (lens rows) k 0 ≡ 0) → numbers cs ≡ map (λ r. value p (coeffs r) y) rows → Clean n cs
-unfolding value
-across_clean n y rows cs empty e k le = ap (λ l. get_or l k 0) e ∙ past rows k (empty k le)
-  where
-    past : (rows : List Polynomial) (k : ℕ) → get_or (lens rows) k 0 ≡ 0 → get_or (map (λ r. value p (coeffs r) y) rows) k 0 ≡ 0
-    past [] k h = refl
-    past (r ∷ rows) zero h = ap (λ n. value p (numbers (take n r.coefficients)) y) h
-    past (r ∷ rows) (suc k) h = past rows k h
+-- the values of the rows in front, with anything behind them
+pub across_whole : (n i y : ℕ) (rows : List Polynomial) (cs zs : List Element) → i ≡ n → n ≤ length cs → numbers (take i cs) ≡ map (λ r. value p (coeffs r) y) (take i rows) → numbers (take n (cs ++ zs)) ≡ set_second p (front n rows) y
+across_whole n i y rows cs zs same le is = rw (← same, take-append-le i cs zs (omega arith), is) (sym (second_map y (take i rows)))
 
 -- with x set, from the last row to the first: r is one row more, and h the new sum
 pub down_turn : (x : ℕ) (r g m h : Polynomial) (rows : List Polynomial) → coeffs g ≡ set_first p (map coeffs rows) x → coeffs m ≡ times p x (coeffs g) → coeffs h ≡ plus p (coeffs r) (coeffs m) → coeffs h ≡ set_first p (map coeffs (r ∷ rows)) x

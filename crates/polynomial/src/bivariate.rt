@@ -71,8 +71,13 @@ impl Bivariate {
     pub fn across(&self, y: Element) -> Polynomial
         ensures { coeffs result ≡ set_second p (rows_of self.now) y.value }
     {
+        let mut coefficients = [Element::zero(); 6];
+        // By place, and only the rows that there are: `map` of an array copies all six first.
+        for (i, c) in coefficients[..self.shape.high].iter_mut().enumerate() {
+            *c = self.rows[i].evaluate(y);
+        }
         Polynomial {
-            coefficients: self.rows.map(|row| row.evaluate(y)),
+            coefficients,
             len: self.shape.high,
         }
     }

@@ -11,6 +11,9 @@ pub struct Company {
 }
 
 impl Company {
+    // No company has more keepers.
+    pub const MOST: u8 = 7;
+
     pub fn new(f: u8) -> Option<Company>
         ensures { MatchOption result (2 < f) (λ c. c.f ≡ f) }
     {
@@ -42,5 +45,12 @@ impl Company {
             return Err(Expected::Keeper { last });
         }
         Ok(number)
+    }
+
+    // Two keepers, if there are such.
+    pub fn pair(self, a: u8, b: u8) -> Result<(u8, u8), Expected>
+        ensures { MatchResult result (λ x. (x.0 ≡ a) × (x.1 ≡ b) × (a ≤ 3 * self.f) × (b ≤ 3 * self.f)) (λ _. (a ≤ 3 * self.f) × (b ≤ 3 * self.f) → ⊥) }
+    {
+        Ok((self.keeper(a)?, self.keeper(b)?))
     }
 }

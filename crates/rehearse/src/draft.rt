@@ -1,4 +1,6 @@
 // Messages as a script writes them: numbers may be out of range, and rows of any length up to twelve.
+ghost use Rattle.std.specs.Prelude.{◌≡◌, ◌+◌, ◌*◌, ◌≤◌, length, IfOk, OnOk};
+
 use crate::expected::Expected;
 use crate::failure::Failure;
 use crate::words;
@@ -143,7 +145,9 @@ impl<'a> Body<'a> {
     }
 
     // Eight bytes.
-    fn put(&mut self, number: u64) -> Result<(), AllocError> {
+    fn put(&mut self, number: u64) -> Result<(), AllocError>
+        ensures { OnOk result (length self.new.bytes.items ≡ length self.old.bytes.items + 8) }
+    {
         self.bytes.extend_from_slice(&number.to_be_bytes())
     }
 
@@ -162,8 +166,10 @@ impl<'a> Body<'a> {
     }
 
     // At most twelve numbers, and what ends them.
-    fn side(&mut self) -> Result<End, Failure> {
-        for _ in 0..=12 {
+    fn side(&mut self) -> Result<End, Failure>
+        ensures { IfOk result (λ _. length self.new.bytes.items ≤ length self.old.bytes.items + 8 * 12) }
+    {
+        for _ in 0..=12u8 {
             match self.words.next() {
                 Some("/") => return Ok(End::Slash),
                 Some(word) => self.put(words::number(word)?)?,

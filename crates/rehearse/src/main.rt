@@ -19,6 +19,7 @@ use anyhow::anyhow;
 use expected::Expected;
 use failure::Failure;
 use scene::Reply;
+use show::Refused;
 use stage::Stage;
 use std::alloc::Global;
 use std::io::{BufRead, BufReader};
@@ -48,10 +49,8 @@ fn play_all(rt: &HostRuntime) -> anyhow::Result<()> {
         match answer(&mut stage, rt.alloc(), line.as_slice()) {
             Ok(Reply::Nothing) => {}
             Ok(Reply::Refused(refusals)) => {
-                for refusal in refusals.iter() {
-                    let number = u8::from(*refusal);
-                    println!(rt; "refused {number}")?;
-                }
+                let refused = Refused(refusals.as_slice());
+                print!(rt; "{refused}")?;
             }
             Ok(Reply::Show) => print!(rt; "{stage}")?,
             Err(Failure::Unusable(expected)) => println!(rt; "line {n}: expected {expected}")?,

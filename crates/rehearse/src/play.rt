@@ -1,5 +1,5 @@
 // A dealing that is played: one seat for each keeper, and all that crosses between them as bytes.
-ghost use Rattle.std.specs.Prelude.{◌≡◌, ◌+◌, ◌*◌, ◌≤◌, ◌↔◌, All, IfOk, IsTrue, OnSome};
+ghost use Rattle.std.specs.Prelude.{◌≡◌, ◌+◌, ◌*◌, ◌≤◌, ◌↔◌, All, IfOk, IsTrue, OnSome, length};
 ghost use Rattle.dealing.specs.declared.types.Round.TheVariants.{Decided};
 
 use crate::company::Company;
@@ -8,13 +8,27 @@ use message::{Message, write};
 use polynomial::Bivariate;
 use std::alloc::{AllocError, Global};
 
-#[derive(Clone, Drop)]
+#[derive(Drop)]
 pub struct Play {
     pub company: Company,
     pub dealer: u8,
     pub polynomial: Bivariate,
     // One for each keeper.
     pub seats: Vec<Seat>,
+    ghost seated: { length seats.items ≡ 3 * company.f + 1 },
+}
+
+impl Clone for Play {
+    ghost is_clone = { λ x y. (y.company ≡ x.company) × (y.dealer ≡ x.dealer) × (y.polynomial ≡ x.polynomial) × (y.seats.items ≡ x.seats.items) };
+
+    fn clone(&self) -> Result<Play, AllocError> {
+        Ok(Play {
+            company: self.company,
+            dealer: self.dealer,
+            polynomial: self.polynomial,
+            seats: self.seats.clone()?,
+        })
+    }
 }
 
 impl Play {

@@ -7,56 +7,76 @@ use crate::words;
 use crate::words::Words;
 use field::Element;
 use polynomial::{Bivariate, Shape};
-use std::alloc::Global;
+use std::alloc::{AllocError, Global};
 
-// One or more rows of one length, each with a number.
+// The numbers of six rows of six: no shape has room for more.
+const ROOM: usize = 36;
+
+// One or more rows of one length, each with a number: how many rows there are, how long they are, and their numbers, row by row. Numbers past ROOM are not kept, so a long line takes no memory beside its own.
 #[derive(Drop)]
-pub struct Rows(Vec<Vec<Element>>);
+pub struct Rows {
+    high: usize,
+    low: usize,
+    numbers: Vec<Element>,
+}
 
 impl Rows {
     // Reads rows, with a slash between them.
     pub fn read(heap: Global, words: Words<'_>) -> Result<Rows, Failure> {
-        let mut rows = Rows(Vec::new(heap));
-        let mut row = Vec::new(heap);
+        let mut rows = Rows {
+            high: 0,
+            low: 0,
+            numbers: Vec::new(heap),
+        };
+        let mut len = 0usize;
         for word in words {
             if word == "/" {
-                rows.add(row)?;
-                row = Vec::new(heap);
+                rows.end_row(len)?;
+                len = 0;
             } else {
-                row.push(coefficient(word)?)?;
+                rows.add(coefficient(word)?)?;
+                len = len.saturating_add(1);
             }
         }
-        rows.add(row)?;
+        rows.end_row(len)?;
         Ok(rows)
     }
 
-    // Adds a row, which should have a number, and as many as the others.
-    fn add(&mut self, row: Vec<Element>) -> Result<(), Failure> {
-        if row.is_empty() {
-            return Err(Expected::Coefficient.into());
+    // Adds a number, while a shape may have room for it.
+    fn add(&mut self, number: Element) -> Result<(), AllocError> {
+        if self.numbers.len() < ROOM {
+            self.numbers.push(number)?;
         }
-        if self.0.first().is_some_and(|first| first.len() != row.len()) {
-            return Err(Expected::EvenRows.into());
+        Ok(())
+    }
+
+    // Ends a row, which should have a number, and as many as the others.
+    fn end_row(&mut self, len: usize) -> Result<(), Expected> {
+        if len == 0 {
+            return Err(Expected::Coefficient);
         }
-        self.0.push(row)?;
+        if self.high == 0 {
+            self.low = len;
+        }
+        if len != self.low {
+            return Err(Expected::EvenRows);
+        }
+        self.high = self.high.saturating_add(1);
         Ok(())
     }
 
     // The polynomial of at most so many rows of at most so many numbers each.
-    pub fn polynomial(&self, heap: Global, most: usize) -> Result<Bivariate, Failure>
+    pub fn polynomial(&self, most: usize) -> Result<Bivariate, Expected>
         ensures { IfOk result (λ f. (f.shape.high ≤ most) × (f.shape.low ≤ most)) }
     {
-        let high = self.0.len();
-        if high > most {
-            return Err(Expected::FewRows.into());
+        if self.high > most {
+            return Err(Expected::FewRows);
         }
-        let low = self.0.first().map_or(0, |row| row.len());
-        if low > most {
-            return Err(Expected::ShortRows.into());
+        if self.low > most {
+            return Err(Expected::ShortRows);
         }
-        let shape = Shape::new(high, low).ok_or(Expected::FewRows)?;
-        let numbers = self.0.as_slice().concat(heap)?;
-        Ok(Bivariate::from_slice(shape, numbers.as_slice()).ok_or(Expected::EvenRows)?)
+        let shape = Shape::new(self.high, self.low).ok_or(Expected::FewRows)?;
+        Bivariate::from_slice(shape, self.numbers.as_slice()).ok_or(Expected::EvenRows)
     }
 }
 

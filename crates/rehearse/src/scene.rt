@@ -1,5 +1,5 @@
 // What stands on the stage: the keepers, who of them lies, and a dealing.
-ghost use Rattle.std.specs.Prelude.{◌≡◌, [], None};
+ghost use Rattle.std.specs.Prelude.{◌≡◌, ◌*◌, ◌≤◌, [], None, IfOk};
 
 use crate::company::Company;
 use crate::draft::Draft;
@@ -84,7 +84,7 @@ impl Scene {
     // A keeper deals; an earlier dealing is gone.
     fn deal(&mut self, heap: Global, dealer: u8, rows: Rows) -> Result<Reply, Failure> {
         let dealer = self.company.keeper(dealer)?;
-        let polynomial = rows.polynomial(heap, usize::from(self.company.f()) + 1)?;
+        let polynomial = rows.polynomial(usize::from(self.company.f()) + 1)?;
         self.play = Some(Play::new(heap, self.company, dealer, polynomial)?);
         Ok(Reply::Nothing)
     }
@@ -123,17 +123,20 @@ impl Scene {
     }
 
     // A liar sends what its seat would.
-    fn say(&mut self, heap: Global, from: u8, to: u8) -> Result<Reply, Failure> {
-        let from = self.company.keeper(from)?;
-        let to = self.company.keeper(to)?;
-        let refused = self.dealing_for(from)?.say(heap, from, to)?;
+    fn say(&mut self, heap: Global, liar: u8, to: u8) -> Result<Reply, Failure>
+        ensures { IfOk result (λ _. (liar ≤ 3 * self.old.company.f) × (to ≤ 3 * self.old.company.f)) }
+    {
+        let (liar, to) = self.company.pair(liar, to)?;
+        let refused = self.dealing_for(liar)?.say(heap, liar, to)?;
         Reply::one(heap, refused)
     }
 
     // A liar puts on the board what its seat would.
-    fn post(&mut self, heap: Global, from: u8) -> Result<Reply, Failure> {
-        let from = self.company.keeper(from)?;
-        Ok(Reply::Refused(self.dealing_for(from)?.post(heap, from)?))
+    fn post(&mut self, heap: Global, liar: u8) -> Result<Reply, Failure>
+        ensures { IfOk result (λ _. liar ≤ 3 * self.old.company.f) }
+    {
+        let liar = self.company.keeper(liar)?;
+        Ok(Reply::Refused(self.dealing_for(liar)?.post(heap, liar)?))
     }
 
     // The dealing, and the bytes of a draft in it.
@@ -144,15 +147,18 @@ impl Scene {
     }
 
     // A keeper, or somebody in its name, sends a message.
-    fn send(&mut self, heap: Global, from: u8, to: u8, draft: Draft) -> Result<Reply, Failure> {
-        let from = self.company.keeper(from)?;
-        let to = self.company.keeper(to)?;
+    fn send(&mut self, heap: Global, from: u8, to: u8, draft: Draft) -> Result<Reply, Failure>
+        ensures { IfOk result (λ _. (from ≤ 3 * self.old.company.f) × (to ≤ 3 * self.old.company.f)) }
+    {
+        let (from, to) = self.company.pair(from, to)?;
         let (play, bytes) = self.drafted(heap, draft)?;
         Reply::one(heap, play.mail(from, to, bytes.as_slice()))
     }
 
     // A keeper, or somebody in its name, puts a line on the board.
-    fn board(&mut self, heap: Global, from: u8, draft: Draft) -> Result<Reply, Failure> {
+    fn board(&mut self, heap: Global, from: u8, draft: Draft) -> Result<Reply, Failure>
+        ensures { IfOk result (λ _. from ≤ 3 * self.old.company.f) }
+    {
         let from = self.company.keeper(from)?;
         let (play, bytes) = self.drafted(heap, draft)?;
         Reply::one(heap, play.board(from, bytes.as_slice()))

@@ -68,11 +68,14 @@ fn alone(words: Words<'_>, step: Step) -> Result<Step, Failure> {
     Ok(step)
 }
 
-// `liar I ..`
+// `liar I ..`, each kept once; the first past all keepers stands for those behind it.
 fn liar(heap: Global, words: Words<'_>) -> Result<Step, Failure> {
     let mut named = Vec::new(heap);
     for word in words {
-        named.push(words::keeper(word)?)?;
+        let keeper = words::keeper(word)?.min(Company::MOST);
+        if !named.contains(&keeper) {
+            named.push(keeper)?;
+        }
     }
     if named.is_empty() {
         return Err(Expected::Named.into());

@@ -2,7 +2,7 @@
 use crate::play::Play;
 use crate::scene::Scene;
 use crate::stage::Stage;
-use dealing::{Board, Round, Seat};
+use dealing::{Board, Refusal, Round, Seat};
 use polynomial::Share;
 use std::fmt;
 
@@ -126,6 +126,20 @@ impl fmt::Display for Stage {
     fn fmt<W: fmt::Write>(&self, f: &mut fmt::Formatter<W>) -> fmt::Result {
         if let Some(scene) = &self.scene {
             write!(f, "{scene}")?;
+        }
+        Ok(())
+    }
+}
+
+// The messages that were turned away, a line each. They are printed at once.
+#[derive(Clone, Copy)]
+pub struct Refused<'a>(pub &'a [Refusal]);
+
+impl fmt::Display for Refused<'_> {
+    fn fmt<W: fmt::Write>(&self, f: &mut fmt::Formatter<W>) -> fmt::Result {
+        for refusal in self.0 {
+            let number = u8::from(*refusal);
+            writeln!(f, "refused {number}")?;
         }
         Ok(())
     }
