@@ -1,5 +1,8 @@
 // A dealing that is played: one seat for each keeper, and all that crosses between them as bytes.
-ghost use Rattle.std.specs.Prelude.{◌≡◌, ◌+◌, ◌*◌, ◌≤◌, ◌↔◌, All, IfOk, IsTrue, OnSome, length};
+ghost use Rattle.std.specs.Prelude.{◌≡◌, ◌+◌, ◌*◌, ◌≤◌, ◌↔◌, All, IfOk, IfSome, IsTrue, MatchOption, OnSome, length, slice_get, slice_index_or, ⊤};
+ghost use Rattle.std.specs.Option.{option_copied};
+ghost use Rattle.dealing.specs.Model.{state_of, terms_of};
+ghost use Rattle.rules.specs.Seat.{mail_bytes};
 ghost use Rattle.dealing.specs.declared.types.Round.TheVariants.{Decided};
 
 use crate::company::Company;
@@ -69,9 +72,12 @@ impl Play {
         }
     }
 
-    // Hands a keeper what another one sends it. If it is turned away, all seats stay as they were.
+    // Hands a keeper what another one sends it. If it is turned away, all seats stay as they were; else the keeper's seat,
+    // if there is one, is as the rules say.
     pub fn mail(&mut self, from: u8, to: u8, bytes: &[u8]) -> Option<Refusal>
-        ensures { OnSome result (self.new.seats.items ≡ self.old.seats.items) }
+        requires { to ≤ 6 }
+        ensures refused { OnSome result (self.new.seats.items ≡ self.old.seats.items) }
+        ensures taken { MatchOption result (IfSome (slice_get self.old.seats.items to) (λ seat. state_of (slice_index_or self.new.seats.items to seat) ≡ (mail_bytes (terms_of seat.terms) (state_of seat) from bytes.now).0)) (λ _. ⊤) }
     {
         let seat = self.seats.get_mut(usize::from(to))?;
         seat.take_mail(from, bytes).err()
@@ -86,6 +92,14 @@ impl Play {
         said
     }
 
+    // The seat of a keeper, if there is one.
+    fn seat(&self, keeper: u8) -> Option<&Seat>
+        requires { keeper ≤ 6 }
+        ensures { option_copied result ≡ slice_get self.now.seats.items keeper }
+    {
+        self.seats.get(usize::from(keeper))
+    }
+
     // The bytes of what a keeper's seat says, if anything.
     fn said<F: FnOnce(&Seat) -> Option<Message>>(
         &self,
@@ -93,26 +107,32 @@ impl Play {
         from: u8,
         says: F,
     ) -> Result<Option<Vec<u8>>, AllocError>
-        requires { F.IsAlwaysCallable says }
+        requires { (from ≤ 6) × F.IsAlwaysCallable says }
     {
-        let message = self.seats.get(usize::from(from)).and_then(says);
+        let message = self.seat(from).and_then(says);
         message.map(|message| write(heap, &message)).transpose()
     }
 
     // Keeper `from` sends keeper `to` what its seat would, if anything.
-    pub fn say(&mut self, heap: Global, from: u8, to: u8) -> Result<Option<Refusal>, AllocError> {
+    pub fn say(&mut self, heap: Global, from: u8, to: u8) -> Result<Option<Refusal>, AllocError>
+        requires { (from ≤ 6) × (to ≤ 6) }
+    {
         let bytes = self.said(heap, from, |seat| seat.mail_to(to))?;
         Ok(bytes.and_then(|bytes| self.mail(from, to, bytes.as_slice())))
     }
 
     // A keeper puts on the board what its seat would about keeper k, if anything.
-    fn line(&mut self, heap: Global, from: u8, k: u8) -> Result<Option<Refusal>, AllocError> {
+    fn line(&mut self, heap: Global, from: u8, k: u8) -> Result<Option<Refusal>, AllocError>
+        requires { from ≤ 6 }
+    {
         let bytes = self.said(heap, from, |seat| seat.line(k))?;
         Ok(bytes.and_then(|bytes| self.board(from, bytes.as_slice())))
     }
 
     // A keeper sends all mail that its seat would.
-    pub fn say_all(&mut self, heap: Global, from: u8) -> Result<(), AllocError> {
+    pub fn say_all(&mut self, heap: Global, from: u8) -> Result<(), AllocError>
+        requires { from ≤ 6 }
+    {
         for to in 0..=self.company.last() {
             self.say(heap, from, to)?;
         }
@@ -120,7 +140,9 @@ impl Play {
     }
 
     // A keeper puts on the board all that its seat would; the lines that were turned away.
-    pub fn post(&mut self, heap: Global, from: u8) -> Result<Vec<Refusal>, AllocError> {
+    pub fn post(&mut self, heap: Global, from: u8) -> Result<Vec<Refusal>, AllocError>
+        requires { from ≤ 6 }
+    {
         let mut refused = Vec::new(heap);
         for k in 0..=self.company.last() {
             refused.extend(self.line(heap, from, k)?)?;

@@ -1,5 +1,6 @@
 // What stands on the stage: the keepers, who of them lies, and a dealing.
-ghost use Rattle.std.specs.Prelude.{◌≡◌, ◌*◌, ◌≤◌, [], None, IfOk};
+ghost use Rattle.std.specs.Prelude.{◌≡◌, ◌*◌, ◌≤◌, [], None, IfOk, nat_eq};
+ghost use Rattle.std.specs.List.{list_any};
 
 use crate::company::Company;
 use crate::draft::Draft;
@@ -35,6 +36,14 @@ impl Reply {
         all.extend(refused)?;
         Ok(Reply::Refused(all))
     }
+}
+
+// Is a keeper among those who lie?
+fn lies(liars: &[u8], keeper: u8) -> bool
+    requires { keeper ≤ 6 }
+    ensures { result ≡ list_any (λ liar. nat_eq liar keeper) liars.now }
+{
+    liars.contains(&keeper)
 }
 
 impl Scene {
@@ -98,12 +107,12 @@ impl Scene {
         play.call();
         // Twice over the keepers: all mail comes before any line.
         for from in 0..=self.company.last() {
-            if !self.liars.contains(&from) {
+            if !lies(self.liars.as_slice(), from) {
                 play.say_all(heap, from)?;
             }
         }
         for from in 0..=self.company.last() {
-            if !self.liars.contains(&from) {
+            if !lies(self.liars.as_slice(), from) {
                 play.post(heap, from)?;
             }
         }
@@ -116,10 +125,12 @@ impl Scene {
     }
 
     // The same, for a keeper that lies.
-    fn dealing_for(&mut self, liar: u8) -> Result<&mut Play, Expected> {
-        let lies = self.liars.contains(&liar);
+    fn dealing_for(&mut self, liar: u8) -> Result<&mut Play, Expected>
+        requires { liar ≤ 6 }
+    {
+        let lying = lies(self.liars.as_slice(), liar);
         self.dealing()
-            .and_then(|play| if lies { Ok(play) } else { Err(Expected::Liar) })
+            .and_then(|play| if lying { Ok(play) } else { Err(Expected::Liar) })
     }
 
     // A liar sends what its seat would.
