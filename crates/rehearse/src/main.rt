@@ -7,6 +7,7 @@ mod company;
 mod draft;
 mod expected;
 mod failure;
+mod liars;
 mod play;
 mod rows;
 mod scene;

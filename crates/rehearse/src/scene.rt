@@ -1,11 +1,11 @@
 // What stands on the stage: the keepers, who of them lies, and a dealing.
-ghost use Rattle.std.specs.Prelude.{◌≡◌, ◌*◌, ◌≤◌, [], None, IfOk, nat_eq};
-ghost use Rattle.std.specs.List.{list_any};
+ghost use Rattle.std.specs.Prelude.{◌≡◌, ◌*◌, ◌≤◌, [], None, IfOk};
 
 use crate::company::Company;
 use crate::draft::Draft;
 use crate::expected::Expected;
 use crate::failure::Failure;
+use crate::liars::Liars;
 use crate::play::Play;
 use crate::rows::Rows;
 use crate::script::Step;
@@ -15,7 +15,7 @@ use std::alloc::Global;
 #[derive(Clone, Drop)]
 pub struct Scene {
     pub company: Company,
-    pub liars: Vec<u8>,
+    pub liars: Liars,
     pub play: Option<Play>,
 }
 
@@ -38,24 +38,16 @@ impl Reply {
     }
 }
 
-// Is a keeper among those who lie?
-fn lies(liars: &[u8], keeper: u8) -> bool
-    requires { keeper ≤ 6 }
-    ensures { result ≡ list_any (λ liar. nat_eq liar keeper) liars.now }
-{
-    liars.contains(&keeper)
-}
-
 impl Scene {
     // All keep the rules, and nothing is dealt.
     pub fn new(heap: Global, company: Company) -> Scene
         ensures company { result.company ≡ company }
-        ensures honest { result.liars.items ≡ [] }
+        ensures honest { result.liars.keepers.items ≡ [] }
         ensures undealt { result.play ≡ None }
     {
         Scene {
             company,
-            liars: Vec::new(heap),
+            liars: Liars::new(heap),
             play: None,
         }
     }
@@ -83,9 +75,7 @@ impl Scene {
             return Err(Expected::NoDealing.into());
         }
         for keeper in named {
-            if !self.liars.contains(keeper) {
-                self.liars.push(*keeper)?;
-            }
+            self.liars.insert(self.company.keeper(*keeper)?)?;
         }
         Ok(Reply::Nothing)
     }
@@ -107,12 +97,12 @@ impl Scene {
         play.call();
         // Twice over the keepers: all mail comes before any line.
         for from in 0..=self.company.last() {
-            if !lies(self.liars.as_slice(), from) {
+            if !self.liars.contains(from) {
                 play.say_all(heap, from)?;
             }
         }
         for from in 0..=self.company.last() {
-            if !lies(self.liars.as_slice(), from) {
+            if !self.liars.contains(from) {
                 play.post(heap, from)?;
             }
         }
@@ -128,9 +118,9 @@ impl Scene {
     fn dealing_for(&mut self, liar: u8) -> Result<&mut Play, Expected>
         requires { liar ≤ 6 }
     {
-        let lying = lies(self.liars.as_slice(), liar);
+        let lies = self.liars.contains(liar);
         self.dealing()
-            .and_then(|play| if lying { Ok(play) } else { Err(Expected::Liar) })
+            .and_then(|play| if lies { Ok(play) } else { Err(Expected::Liar) })
     }
 
     // A liar sends what its seat would.

@@ -1,4 +1,5 @@
 // What is shown.
+use crate::liars::Liars;
 use crate::play::Play;
 use crate::scene::Scene;
 use crate::stage::Stage;
@@ -90,20 +91,17 @@ impl Play {
         }
     }
 
-    fn show<W: fmt::Write>(&self, f: &mut fmt::Formatter<W>, liars: &[u8]) -> fmt::Result {
-        let Some(first) = self.seats.first() else {
-            return Ok(());
-        };
+    fn show<W: fmt::Write>(&self, f: &mut fmt::Formatter<W>, liars: &Liars) -> fmt::Result {
+        let first = &self.seats[0];
         let dealer = self.dealer;
         let polynomial = &self.polynomial;
         let round = u8::from(first.round);
         writeln!(f, "dealer {dealer} dealt {polynomial}\nround {round}")?;
-        for seat in self.seats.iter() {
-            let keeper = seat.terms.me;
-            if liars.contains(&keeper) {
+        for keeper in 0..=self.company.last() {
+            if liars.contains(keeper) {
                 writeln!(f, "keeper {keeper}: lies")?;
             } else {
-                self.show_keeper(f, seat)?;
+                self.show_keeper(f, &self.seats[usize::from(keeper)])?;
             }
         }
         show_board(f, first)
@@ -116,7 +114,7 @@ impl fmt::Display for Scene {
         let last = self.company.last();
         writeln!(out, "f {f}, keepers 0 to {last}")?;
         match &self.play {
-            Some(play) => play.show(out, self.liars.as_slice()),
+            Some(play) => play.show(out, &self.liars),
             None => out.write_str("nothing dealt\n"),
         }
     }
