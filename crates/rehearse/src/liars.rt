@@ -1,8 +1,8 @@
 // Who lies.
-ghost use Rattle.std.specs.Prelude.{◌≡◌, ◌≤◌, [], All, OnOk, if◌then◌else◌, nat_eq};
+ghost use Rattle.std.specs.Prelude.{◌≡◌, ◌≤◌, All, OnOk, if◌then◌else◌, nat_eq};
 ghost use Rattle.std.specs.List.{list_any, push};
 
-use std::alloc::{AllocError, Global};
+use std::alloc::AllocError;
 
 // The keepers that lie, each once.
 #[derive(Drop)]
@@ -22,15 +22,6 @@ impl Clone for Liars {
 }
 
 impl Liars {
-    // All keep the rules.
-    pub fn new(heap: Global) -> Liars
-        ensures { result.keepers.items ≡ [] }
-    {
-        Liars {
-            keepers: Vec::new(heap),
-        }
-    }
-
     // Does a keeper lie?
     pub fn contains(&self, keeper: u8) -> bool
         requires { keeper ≤ 6 }

@@ -142,10 +142,13 @@ impl Play {
     // A keeper puts on the board all that its seat would; the lines that were turned away.
     pub fn post(&mut self, heap: Global, from: u8) -> Result<Vec<Refusal>, AllocError>
         requires { from ≤ 6 }
+        ensures { IfOk result (λ refused. length refused.items ≤ 7) }
     {
         let mut refused = Vec::new(heap);
         for k in 0..=self.company.last() {
-            refused.extend(self.line(heap, from, k)?)?;
+            if let Some(why) = self.line(heap, from, k)? {
+                refused.push(why)?;
+            }
         }
         Ok(refused)
     }

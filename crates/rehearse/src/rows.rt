@@ -1,5 +1,5 @@
 // The coefficients of a polynomial F(x, y) as they are written: for each power of x a row of coefficients in y.
-ghost use Rattle.std.specs.Prelude.{◌≤◌, IfOk};
+ghost use Rattle.std.specs.Prelude.{◌≤◌, IfOk, length};
 
 use crate::expected::Expected;
 use crate::failure::Failure;
@@ -18,6 +18,7 @@ pub struct Rows {
     high: usize,
     low: usize,
     numbers: Vec<Element>,
+    ghost room: { length numbers.items ≤ 36 },
 }
 
 impl Rows {
@@ -67,6 +68,7 @@ impl Rows {
 
     // The polynomial of at most so many rows of at most so many numbers each.
     pub fn polynomial(&self, most: usize) -> Result<Bivariate, Expected>
+        requires { most ≤ 3 }
         ensures { IfOk result (λ f. (f.shape.high ≤ most) × (f.shape.low ≤ most)) }
     {
         if self.high > most {
@@ -75,7 +77,7 @@ impl Rows {
         if self.low > most {
             return Err(Expected::ShortRows);
         }
-        let shape = Shape::new(self.high, self.low).ok_or(Expected::FewRows)?;
+        let shape = Shape::new(self.high, self.low).unwrap();
         Bivariate::from_slice(shape, self.numbers.as_slice()).ok_or(Expected::EvenRows)
     }
 }

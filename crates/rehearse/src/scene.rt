@@ -47,7 +47,9 @@ impl Scene {
     {
         Scene {
             company,
-            liars: Liars::new(heap),
+            liars: Liars {
+                keepers: Vec::new(heap),
+            },
             play: None,
         }
     }
@@ -55,7 +57,7 @@ impl Scene {
     // Takes a step. One that fails may be half done, so the stage has a copy take it.
     pub fn take(&mut self, heap: Global, step: Step) -> Result<Reply, Failure> {
         match step {
-            Step::Liar(named) => self.liar(named.as_slice()),
+            Step::Liar(named) => self.liar(named.keepers.as_slice()),
             Step::Deal { dealer, rows } => self.deal(heap, dealer, rows),
             Step::Round => self.round(heap),
             Step::Say { from, to } => self.say(heap, from, to),

@@ -1,4 +1,6 @@
 // What a line of a script says.
+ghost use Rattle.std.specs.Prelude.{◌≤◌, All};
+
 use crate::company::Company;
 use crate::draft::Draft;
 use crate::expected::Expected;
@@ -6,7 +8,7 @@ use crate::failure::Failure;
 use crate::rows::Rows;
 use crate::words;
 use crate::words::Words;
-use std::alloc::Global;
+use std::alloc::{AllocError, Global};
 
 // Whether there are such keepers is for the stage to say.
 #[derive(Drop)]
@@ -15,10 +17,27 @@ pub enum Command {
     Step(Step),
 }
 
+// The keepers that a line names, each once; the first past all keepers stands for those behind it.
+#[derive(Drop)]
+pub struct Named {
+    pub keepers: Vec<u8>,
+    ghost few: { All (λ keeper. keeper ≤ 7) keepers.items },
+}
+
+impl Named {
+    fn insert(&mut self, keeper: u8) -> Result<(), AllocError> {
+        let keeper = keeper.min(Company::MOST);
+        if !self.keepers.contains(&keeper) {
+            self.keepers.push(keeper)?;
+        }
+        Ok(())
+    }
+}
+
 // What needs keepers. `from` and `to` are no struct: each is tested alone.
 #[derive(Drop)]
 pub enum Step {
-    Liar(Vec<u8>),
+    Liar(Named),
     Deal { dealer: u8, rows: Rows },
     Round,
     Say { from: u8, to: u8 },
@@ -68,16 +87,15 @@ fn alone(words: Words<'_>, step: Step) -> Result<Step, Failure> {
     Ok(step)
 }
 
-// `liar I ..`, each kept once; the first past all keepers stands for those behind it.
+// `liar I ..`
 fn liar(heap: Global, words: Words<'_>) -> Result<Step, Failure> {
-    let mut named = Vec::new(heap);
+    let mut named = Named {
+        keepers: Vec::new(heap),
+    };
     for word in words {
-        let keeper = words::keeper(word)?.min(Company::MOST);
-        if !named.contains(&keeper) {
-            named.push(keeper)?;
-        }
+        named.insert(words::keeper(word)?)?;
     }
-    if named.is_empty() {
+    if named.keepers.is_empty() {
         return Err(Expected::Named.into());
     }
     Ok(Step::Liar(named))
