@@ -69,13 +69,16 @@ impl Rows {
     // The polynomial of at most so many rows of at most so many numbers each.
     pub fn polynomial(&self, most: usize) -> Result<Bivariate, Expected>
         requires { most ≤ 3 }
-        ensures { IfOk result (λ f. (f.shape.high ≤ most) × (f.shape.low ≤ most)) }
+        ensures { IfOk result (λ f. (f.shape.high ≤ most) × (1 ≤ f.shape.low) × (f.shape.low ≤ most)) }
     {
         if self.high > most {
             return Err(Expected::FewRows);
         }
         if self.low > most {
             return Err(Expected::ShortRows);
+        }
+        if self.low == 0 {
+            return Err(Expected::Coefficient);
         }
         let shape = Shape::new(self.high, self.low).unwrap();
         Bivariate::from_slice(shape, self.numbers.as_slice()).ok_or(Expected::EvenRows)

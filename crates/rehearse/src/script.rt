@@ -1,5 +1,6 @@
 // What a line of a script says.
-ghost use Rattle.std.specs.Prelude.{◌≤◌, All};
+ghost use Rattle.std.specs.Prelude.{◌≡◌, ◌≤◌, All, OnOk, if◌then◌else◌, min, nat_eq};
+ghost use Rattle.std.specs.List.{list_any, push};
 
 use crate::company::Company;
 use crate::draft::Draft;
@@ -25,7 +26,9 @@ pub struct Named {
 }
 
 impl Named {
-    fn insert(&mut self, keeper: u8) -> Result<(), AllocError> {
+    fn insert(&mut self, keeper: u8) -> Result<(), AllocError>
+        ensures { OnOk result (self.new.keepers.items ≡ (if list_any (λ named. nat_eq named (min keeper 7)) self.old.keepers.items then self.old.keepers.items else push self.old.keepers.items (min keeper 7))) }
+    {
         let keeper = keeper.min(Company::MOST);
         if !self.keepers.contains(&keeper) {
             self.keepers.push(keeper)?;
